@@ -1,0 +1,12 @@
+pub mod Arrivals
+pub mod ArrivalsLeft
+pub mod BytesIn
+pub mod BytesOut
+pub mod Clock
+pub mod Failing
+pub mod FailingPlan
+pub mod Faults
+pub mod Forms
+pub mod Link
+pub mod Standard
+pub mod Unread

@@ -1,0 +1,3 @@
+pub mod Elapsed
+pub mod Interval
+pub mod Clock

@@ -1,1 +1,5 @@
 pub mod Team
+pub mod Bytes
+pub mod Spelling
+pub mod Ranges
+pub mod Examples

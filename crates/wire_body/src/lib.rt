@@ -1,0 +1,15 @@
+//! Datagrams as bytes.
+//!
+//! Rules held here: what a body's fields may be; a datagram ends with its last field. Each datagram has one spelling, and
+//! no other bytes are read as it.
+#![tactic(auto)]
+
+mod reading;
+mod writing;
+
+pub use reading::read;
+pub use tw_types::WireFault;
+pub use writing::write;
+
+#[cfg(test)]
+mod tests;

@@ -1,0 +1,5 @@
+pub mod Zeros
+pub mod Numbers
+pub mod Written
+pub mod Steps
+pub mod Heads

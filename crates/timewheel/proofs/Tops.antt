@@ -1,11 +1,16 @@
 -- What the top call answers.
-use Rattle.std.proofs.Common.{subst, ◌≡◌, ◌⊎◌, inl, inr, refl, sym, ap, ◌∙◌, ℕ, List, [], ◌++◌, Option, Some}
+use Rattle.std.proofs.Common.{subst, ◌≡◌, ◌⊎◌, inl, inr, refl, sym, ap, ◌∙◌, ℕ, List, [], ◌∷◌, ◌++◌, Option, Some}
 use Rattle.std.proofs.lemmas.List.{append-nil}
+use Rattle.tw_types.specs.declared.team.Team.{Team}
 use Rattle.tw_types.specs.declared.team.TeamFault.{TeamFault}
+use Rattle.timewheel.specs.Schedule.{Step}
 use Rattle.timewheel.specs.declared.status.Status.{Status}
 use Rattle.timewheel.specs.declared.status.Status.TheVariants as status
-use Rattle.timewheel.specs.Replay.{lines_of, Verdict, Whole, NoTeam, Faulty, BadLine, Endless, IsVerdict, status_of, text_before}
-use Rattle.timewheel.specs.Top.{GaveUp, IsAnswered, IsReplayed}
+use Rattle.timewheel.specs.Replay.{lines_of, Begins, Verdict, Whole, NoTeam, Faulty, BadLine, Endless, IsVerdict, status_of, text_before}
+use Rattle.timewheel.specs.Top.{GaveUp, RowsAreWell, IsAnswered, IsReplayed}
+use Rattle.timewheel.specs.Rows.{rows_of}
+use Rattle.timewheel.specs.SafeRows.{SafeRows}
+use Rattle.timewheel.specs.ClockLaw.{ReadsWell}
 use Rattle.timewheel.proofs.ClockLaw.{reads_well}
 use Rattle.timewheel.proofs.SafeRows.{safe_rows}
 use Rattle.timewheel.proofs.Sound.{sound_of, spells_built}
@@ -14,6 +19,17 @@ use Rattle.timewheel.proofs.Verdicts.{nothing_written}
 -- a status that isn't one of the three
 pub settled : (s t : Status) → s ≡ t → (GaveUp t → ⊥) → GaveUp s → ⊥
 settled s t e not gave = not (subst (λ (x : Status). GaveUp x) e gave)
+
+begins_well : (lines : List (List ℕ)) (team : Team) (past : List Step) (rest : List (List ℕ)) → Begins lines team past rest → SafeRows team (rows_of team past) × ReadsWell team past
+begins_well lines team past rest begins = (safe_rows team past, reads_well team past (sound_of team begins.sound) begins.admissible (spells_built team.n past rest begins.others begins.steps))
+
+-- the rows before the line that ends a text are safe, and read near team time
+pub rows_well : (lines : List (List ℕ)) (v : Verdict) → IsVerdict lines v → RowsAreWell v
+rows_well lines (Whole team past) is = begins_well lines team past [] is
+rows_well lines NoTeam is = tt
+rows_well lines (Faulty fault) is = tt
+rows_well lines (BadLine team past cause) is = begins_well lines team past (is.0 ∷ is.1) is.2
+rows_well lines (Endless team past) is = begins_well lines team past (is.0 ∷ is.1) is.2
 
 pub replayed : (all : List ℕ) (left : Option (List ℕ)) (before : List ℕ) (taken : Option (List ℕ)) (result : Status) → IsAnswered all left before taken result → result ≡ status.Ok → IsReplayed all left before taken
 replayed all left before taken result a ok = by_verdict a.tells.0 a.tells.1 (sym ok ∙ a.tells.2) a.tells.3

@@ -5,7 +5,7 @@ use Rattle.timewheel.specs.declared.status.Status.{Status}
 use Rattle.timewheel.specs.declared.status.Status.TheVariants as status
 use Rattle.tw_types.specs.declared.team.Team.{Team}
 use Rattle.timewheel.specs.Schedule.{Step}
-use Rattle.timewheel.specs.Replay.{lines_of, Begins}
+use Rattle.timewheel.specs.Replay.{lines_of, Begins, Verdict, Whole, NoTeam, Faulty, BadLine, Endless, IsVerdict}
 use Rattle.timewheel.specs.Rows.{rows_of}
 use Rattle.timewheel.specs.RowText.{text_of}
 use Rattle.timewheel.specs.SafeRows.{SafeRows}
@@ -42,12 +42,21 @@ IsAnswerOfReplay (status.Differs line recorded computed) = ⊥
 IsAnswerOfReplay status.ClockSpent = ⊥
 IsAnswerOfReplay _ = Unit {0}
 
+-- the rows of the steps before the line that ends a text are safe, and each reading in them is near the team time of its step
+abbrev pub RowsAreWell : Verdict → Type 0
+RowsAreWell (Whole team past) = SafeRows team (rows_of team past) × ReadsWell team past
+RowsAreWell NoTeam = Unit {0}
+RowsAreWell (Faulty fault) = Unit {0}
+RowsAreWell (BadLine team past cause) = SafeRows team (rows_of team past) × ReadsWell team past
+RowsAreWell (Endless team past) = SafeRows team (rows_of team past) × ReadsWell team past
+
 -- The status tells what the text is, and the rows of the steps before the line that ends it were written; at Ok nothing of the text is left.
 pub record IsAnswered (all : List ℕ) (left : Option (List ℕ)) (before : List ℕ) (taken : Option (List ℕ)) (result : Status) : Type 0 where
   pub rows : List ℕ
   pub tells : Tells (lines_of all) result rows
   pub written : taken ≡ Some (before ++ rows)
   pub ended : result ≡ status.Ok → left ≡ Some []
+  pub well : (v : Verdict) → IsVerdict (lines_of all) v → RowsAreWell v
 
 -- A front of the rows of the steps before the line that ends the text was written.
 pub record IsCutOff (all : List ℕ) (before : List ℕ) (taken : Option (List ℕ)) : Type 0 where
@@ -56,6 +65,7 @@ pub record IsCutOff (all : List ℕ) (before : List ℕ) (taken : Option (List �
   pub tells : Tells (lines_of all) status rows
   pub count : ℕ
   pub written : taken ≡ Some (before ++ take count rows)
+  pub well : (v : Verdict) → IsVerdict (lines_of all) v → RowsAreWell v
 
 -- The bytes are the lines of a sound team and of an admissible schedule; all of them were read, and the text of the schedule's rows
 -- was written. The rows are safe, and each reading in them is near the team time of its step.

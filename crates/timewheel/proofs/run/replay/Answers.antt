@@ -1,5 +1,7 @@
 use Rattle.std.proofs.Common.{sym}
 use Rattle.std.specs.Prelude.{string_bytes}
+use Rattle.timewheel.proofs.Tops.{rows_well}
+use Rattle.timewheel.specs.Replay.{lines_of}
 use Rattle.timewheel.proofs.run.replay.Goals as goal
 
 pub returns-in-Ok-write_all-clause-answered : goal.returns-in-Ok-write_all-clause-answered
@@ -11,6 +13,7 @@ returns-in-Ok-write_all-clause-answered g c = λ gave all before left taken.
       tells = rw (read.2, sym c.deref.ensures.value) (c.in-Ok-replay_text.ensures.tells read.0 go);
       written = rw (sym c.as_bytes.ensures.value) (c.in-Ok-write_all.ensures.written before taken);
       ended = λ ok. rw (c.in-Ok-replay_text.ensures.whole ok read.0 go) at read.1;
+      well = rows_well (lines_of all);
     }
 
 pub returns-clause-cut_off : goal.returns-clause-cut_off
@@ -24,4 +27,5 @@ returns-clause-cut_off g c = λ fault all before left taken.
       tells = rw (read.2, sym c.deref.ensures.value) (c.in-Ok-replay_text.ensures.tells read.0 go);
       count = cut.0;
       written = rw (sym c.as_bytes.ensures.value) cut.1;
+      well = rows_well (lines_of all);
     }

@@ -27,7 +27,7 @@ abbrev pub narrowed : Option Keys → Keys → Keys
 narrowed None k = k
 narrowed (Some j) k = record { low = max j.low k.low; high = min j.high k.high }
 
--- the keys of intervals that end below 2 ^ 62, given below 2 ^ 60
+-- the keys of intervals that end below 2 ^ 62 + 2 ^ 61, as heard ones do, given below 2 ^ 60
 pub record IsInRange (k : Keys) : Type 0 where
-  pub low : k.low ≤ 2 ^ 62 * 1001000 + 2 ^ 60 * 1000000
-  pub high : k.high ≤ 2 ^ 62 * 1000000 + 2 ^ 60 * 1000000
+  pub low : k.low ≤ 3 * 2 ^ 61 * 1001000 + 2 ^ 60 * 1000000
+  pub high : k.high ≤ 3 * 2 ^ 61 * 1000000 + 2 ^ 60 * 1000000

@@ -23,7 +23,7 @@ impl Keys {
     pub fn of(h: u64, lo: u64, hi: u64, ppm: u64) -> Keys
         requires reading { h < 2 ^ 60 }
         requires ordered { lo ≤ hi }
-        requires range { hi < 2 ^ 62 }
+        requires range { hi < 3 * 2 ^ 61 }
         requires drift { ppm ≤ 1000 }
         ensures low { result.low + h * 1000000 ≡ lo * (1000000 + ppm) + 2 ^ 60 * 1000000 }
         ensures high { result.high + h * 1000000 ≡ hi * (1000000 - ppm) + 2 ^ 60 * 1000000 }

@@ -32,8 +32,8 @@ impl Model for TeamClock {
 }
 
 impl TeamClock {
-    ghost use Rattle.std.specs.Prelude.{◌≡◌, ℕ, ◌+◌, ◌<◌, ◌≤◌, ◌^◌, IfSome, MatchResult};
-    ghost use Rattle.tw_num.specs.Clock.{Clock, fresh, IsNotBefore, refusal, clash, after_given};
+    ghost use Rattle.std.specs.Prelude.{◌≡◌, ℕ, ◌+◌, ◌*◌, ◌<◌, ◌≤◌, ◌^◌, IfSome, MatchResult};
+    ghost use Rattle.tw_num.specs.Clock.{Clock, heard, fresh, IsNotBefore, refusal, clash, after_given};
     ghost use Rattle.tw_num.specs.Clock.{interval_at, reading_at, after_read, or_before};
     ghost use Rattle.clock_sync.specs.Keys.{interval_of};
     ghost use Rattle.clock_sync.specs.StandsFor.{StandsFor};
@@ -75,16 +75,33 @@ impl TeamClock {
         ensures kept { MatchResult result (λ _. self.new ≡ record self.old { keys = self.new.keys })
             (λ d. self.new ≡ record self.old { disjoint = Some d }) }
     {
-        if let Some(disjoint) = self.disjoint {
-            return Err(disjoint);
-        }
-        let got = Interval { lo, hi }.aged(0, self.ppm);
-        if let Some(disjoint) = self.contradiction(h, got) {
-            self.disjoint = Some(disjoint);
-            return Err(disjoint);
-        }
-        self.keys = Some(Keys::of(h, lo, hi, self.ppm).narrowed(self.keys));
-        Ok(())
+        self.give(h, Interval { lo, hi })
+    }
+
+    /// Gives the clock what another process's datagram says: `interval` held team time when it was sent, and it was on
+    /// its way for at most `bound` microseconds. It arrived at the reading `h`, which is not before that of any interval
+    /// given earlier.
+    ///
+    /// What is given is the interval with its upper end `bound` later. It is refused as by `reference`.
+    pub fn hear(&mut self, h: u64, interval: Interval, bound: u64) -> Result<(), Disjoint>
+        requires reading { h < 2 ^ 60 }
+        requires ordered { interval.lo ≤ interval.hi }
+        requires range { interval.hi < 2 ^ 62 }
+        requires bound { bound < 2 ^ 61 }
+        ensures refusal { (ppm eps : ℕ) (c : Clock) → StandsFor ppm eps self.old c → IsNotBefore h c →
+            let why = refusal ppm h (heard interval bound) c
+            in MatchResult result (λ _. why ≡ None) (λ d. why ≡ Some d) }
+        ensures given { (ppm eps : ℕ) (c : Clock) → StandsFor ppm eps self.old c → IsNotBefore h c →
+            StandsFor ppm eps self.new (after_given ppm h (heard interval bound) c) }
+        // so the next call may be at h, or at any later reading
+        ensures not_before { (ppm : ℕ) (c : Clock) → IsNotBefore h c →
+            IsNotBefore h (after_given ppm h (heard interval bound) c) }
+        ensures refused_before { IfSome self.old.disjoint (λ d. result ≡ Err d) }
+        ensures kept { MatchResult result (λ _. self.new ≡ record self.old { keys = self.new.keys })
+            (λ d. self.new ≡ record self.old { disjoint = Some d }) }
+    {
+        let hi = interval.hi + bound;
+        self.give(h, Interval { hi, ..interval })
     }
 
     /// What holds team time at the reading `h`, which is not before that of any interval given. None exactly where
@@ -128,6 +145,32 @@ impl TeamClock {
             .map_or(middle, |greatest| middle.max(greatest));
         self.greatest = Some(reading);
         Some(reading)
+    }
+
+    /// Gives the clock an interval at the reading `h`, or refuses it.
+    fn give(&mut self, h: u64, given: Interval) -> Result<(), Disjoint>
+        requires reading { h < 2 ^ 60 }
+        requires ordered { given.lo ≤ given.hi }
+        requires range { given.hi < 3 * 2 ^ 61 }
+        ensures refusal { (ppm eps : ℕ) (c : Clock) → StandsFor ppm eps self.old c → IsNotBefore h c →
+            let why = refusal ppm h given c in MatchResult result (λ _. why ≡ None) (λ d. why ≡ Some d) }
+        ensures given { (ppm eps : ℕ) (c : Clock) → StandsFor ppm eps self.old c → IsNotBefore h c →
+            StandsFor ppm eps self.new (after_given ppm h given c) }
+        ensures not_before { (ppm : ℕ) (c : Clock) → IsNotBefore h c → IsNotBefore h (after_given ppm h given c) }
+        ensures refused_before { IfSome self.old.disjoint (λ d. result ≡ Err d) }
+        ensures kept { MatchResult result (λ _. self.new ≡ record self.old { keys = self.new.keys })
+            (λ d. self.new ≡ record self.old { disjoint = Some d }) }
+    {
+        if let Some(disjoint) = self.disjoint {
+            return Err(disjoint);
+        }
+        let got = given.aged(0, self.ppm);
+        if let Some(disjoint) = self.contradiction(h, got) {
+            self.disjoint = Some(disjoint);
+            return Err(disjoint);
+        }
+        self.keys = Some(Keys::of(h, given.lo, given.hi, self.ppm).narrowed(self.keys));
+        Ok(())
     }
 
     /// What all the given intervals share at `h`. None where nothing was given, and where their ends have crossed, as they

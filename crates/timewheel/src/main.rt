@@ -1,25 +1,12 @@
 //! The program `timewheel`: it replays a schedule of a group of processes and writes one row for each step.
 //!
-//! Rules held here: which words are a command, what is read and written, how a schedule's lines are spelled, which steps
-//! may follow which, what each step makes of a process's clock, the text of the rows, and the status that a command
-//! ends with.
+//! Rules held here: which words are a command, what is read and written, and what each step makes of a process's clock.
 #![tactic(auto)]
 
-mod fields;
-mod first_line;
-mod grammar;
-mod input;
-mod laws;
-mod output;
-mod replay;
-mod row;
 mod run;
-mod status;
-mod step;
-mod world;
 
 use run::run;
-use status::Status;
+use schedule_text::Status;
 use std::alloc::Global;
 use std::process::ExitCode;
 use std::{env, io};

@@ -1,14 +1,13 @@
 ghost use Rattle.std.specs.Prelude.{◌≡◌, ◌≢◌, ◌↔◌, ℕ, ◌≤◌, List, [], ◌∷◌, Some, map, codes, string_bytes, IsTrue, ◌⊎◌};
 ghost use Rattle.tw_io.specs.Faults.{IsRisen};
 ghost use Rattle.tw_types.specs.declared.team.TeamFault.{TeamFault as TeamFaultSeen};
-ghost use Rattle.timewheel.specs.Replay.{lines_of};
-ghost use Rattle.timewheel.specs.Statuses.{IsGood, HasFaultyTeam, HasBadLine, IsBadSchedule, HasTooMany};
-ghost use Rattle.timewheel.specs.Top.{NamesReplay, GaveUp, Settles, TellsOfText, IsAnswerOfReplay, IsAnswered, IsCutOff, IsReplayed};
+ghost use Rattle.replayer.specs.Replay.{lines_of};
+ghost use Rattle.replayer.specs.Statuses.{IsGood, HasFaultyTeam, HasBadLine, IsBadSchedule, HasTooMany};
+ghost use Rattle.replayer.specs.Answers.{IsAnswered, IsCutOff, IsReplayed};
+ghost use Rattle.timewheel.specs.Top.{NamesReplay, Settles, IsAnswerOfReplay};
 
-use crate::input::{Halt, read_text};
-use crate::output::write_all;
-use crate::replay::replay_text;
-use crate::status::Status;
+use replayer::replay;
+use schedule_text::Status;
 use std::alloc::Global;
 use tw_io::{Clock, Link, Sink, Source};
 
@@ -26,32 +25,6 @@ fn names_replay(word: &str) -> bool
     ensures { IsTrue result ↔ (word.now ≡ codes "replay") }
 {
     word == "replay"
-}
-
-/// Reads a schedule and writes its rows.
-fn replay<S: Source, K: Sink>(alloc: Global, src: &mut S, sink: &mut K) -> Status
-    ensures answered { (GaveUp result → ⊥) → (all before : List ℕ) → S.left src.old ≡ Some all → K.taken sink.old ≡ Some before →
-        IsAnswered all (S.left src.new) before (K.taken sink.new) result }
-    ensures cut_off { result ≡ Status.WriteFault → (all before : List ℕ) → S.left src.old ≡ Some all → K.taken sink.old ≡ Some before →
-        IsCutOff all before (K.taken sink.new) }
-    ensures unread { result ≡ Status.ReadFault → sink.new ≡ sink.old }
-    ensures no_memory { result ≡ Status.WantOfMemory → sink.new ≡ sink.old }
-    ensures read_fault { result ≡ Status.ReadFault → IsRisen (S.faults src.old) (S.faults src.new) }
-    ensures write_fault { result ≡ Status.WriteFault → IsRisen (K.faults sink.old) (K.faults sink.new) }
-    ensures others { TellsOfText result ⊎ GaveUp result }
-{
-    let text = match read_text(alloc, src) {
-        Ok(text) => text,
-        Err(Halt::ReadFault) => return Status::ReadFault,
-        Err(Halt::WantOfMemory) => return Status::WantOfMemory,
-    };
-    let Ok(replay) = replay_text(alloc, &text) else {
-        return Status::WantOfMemory;
-    };
-    match write_all(sink, replay.rows.as_bytes()) {
-        Ok(()) => replay.status,
-        Err(_) => Status::WriteFault,
-    }
 }
 
 /// Runs a command over a source, a sink, a clock and a link. `replay` reads a schedule and writes its rows, one for each

@@ -1,1 +1,2 @@
+pub mod Delays
 mod Worked

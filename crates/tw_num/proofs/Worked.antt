@@ -4,7 +4,8 @@ use Rattle.std.specs.Prelude.{pos, negsuc}
 use Rattle.tw_num.specs.declared.interval.Interval.{Interval}
 use Rattle.tw_num.specs.Elapsed.{up, down}
 use Rattle.tw_num.specs.Interval.{aged, meet}
-use Rattle.tw_num.specs.Clock.{Clock, fresh, after_given, after_read, interval_at, reading_at, refusal}
+use Rattle.tw_num.specs.Clock.{Clock, heard, fresh, after_given, after_read, interval_at, reading_at, refusal}
+use Rattle.tw_num.specs.Rate.{RoundTrip, echo_bound, interval_bound, rate, Timely, Late, Unrated}
 
 abbrev between : ℕ → ℕ → Interval
 between lo hi = record { lo = lo; hi = hi }
@@ -49,3 +50,53 @@ goes_on = refl
 
 refused : refusal 0 5 (between 100 110) (after_given 0 5 (between 10 20) fresh) ≡ Some (record { have = between 9 21; got = between 99 111 })
 refused = refl
+
+-- a trip of 20000 ticks at home and 19000 away, by clocks that don't drift
+abbrev there_and_back : RoundTrip
+there_and_back = record { a = 510; b = 1010; sent = 20010; h = 20510 }
+
+echoed : echo_bound 0 there_and_back ≡ Some 1002
+echoed = refl
+
+-- no tick of the sender's clock says nothing: 11 and not 12
+sent_at_once : echo_bound 0 (record { a = 0; b = 5; sent = 5; h = 10 }) ≡ Some 11
+sent_at_once = refl
+
+-- the sender says that it waited longer than the whole trip took
+waited_too_long : echo_bound 0 (record { a = 0; b = 0; sent = 100; h = 10 }) ≡ Some 0
+waited_too_long = refl
+
+from_later : echo_bound 0 (record { a = 11; b = 0; sent = 100; h = 10 }) ≡ None
+from_later = refl
+
+heard_later : echo_bound 0 (record { a = 0; b = 101; sent = 100; h = 10 }) ≡ None
+heard_later = refl
+
+-- the drift bound counts on both sides: up 1000000 is 1001002 and down 1000000 is 999000 at a thousandth
+drifting : echo_bound 1000 (record { a = 0; b = 0; sent = 1000000; h = 1000000 }) ≡ Some 2002
+drifting = refl
+
+no_wait : interval_bound (Some (between 1 5)) (Some (between 6 9)) ≡ Some 0
+no_wait = refl
+
+as_late_as_allowed : rate 0 10000 None (Some (between 709997 709999)) (Some (between 699999 700001)) ≡ Timely 10000
+as_late_as_allowed = refl
+
+late : rate 0 10000 None (Some (between 709998 710000)) (Some (between 699999 700001)) ≡ Late 10001
+late = refl
+
+-- the echo bound alone, and an interval bound that is less, and one that is greater
+by_echo : rate 0 1001 (Some there_and_back) (Some (between 0 1)) None ≡ Late 1002
+by_echo = refl
+
+by_interval : rate 0 1001 (Some there_and_back) (Some (between 20509 20511)) (Some (between 20009 20011)) ≡ Timely 502
+by_interval = refl
+
+by_echo_again : rate 0 1001 (Some there_and_back) (Some (between 30000 30010)) (Some (between 20009 20011)) ≡ Late 1002
+by_echo_again = refl
+
+nothing_told : rate 0 10000 None (Some (between 0 1)) None ≡ Unrated
+nothing_told = refl
+
+heard_wider : heard (between 20009 20011) 1002 ≡ between 20009 21013
+heard_wider = refl

@@ -11,6 +11,10 @@ pub record Given : Type 0 where
   pub h : ℕ
   pub interval : Interval
 
+-- what is given of an interval that was sent: it held team time then, at most so long ago
+abbrev pub heard : Interval → ℕ → Interval
+heard i bound = record { lo = i.lo; hi = i.hi + bound }
+
 -- What a process's clock knows since its start: the intervals that it was given and that were not refused, the newest
 -- first; its greatest reading so far; and the first interval that was refused, with what it contradicted.
 pub record Clock : Type 0 where

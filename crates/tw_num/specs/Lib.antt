@@ -1,3 +1,4 @@
 pub mod Elapsed
 pub mod Interval
 pub mod Clock
+pub mod Rate

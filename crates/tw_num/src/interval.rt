@@ -25,7 +25,7 @@ impl Interval {
         requires ticks { ticks < 2 ^ 60 }
         requires drift { ppm ≤ 1000 }
         requires ordered { self.lo ≤ self.hi }
-        requires range { self.hi < 2 ^ 62 }
+        requires range { self.hi < 2 ^ 63 }
         ensures exact { result ≡ aged self ticks ppm }
         ensures holds { (t time : ℕ) → Holds self t → MayElapse ppm ticks time → Holds result (t + time) }
     {

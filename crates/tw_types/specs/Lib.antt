@@ -3,3 +3,9 @@ pub mod Bytes
 pub mod Spelling
 pub mod Ranges
 pub mod Examples
+pub mod Outputs
+pub mod Contents
+pub mod Row
+pub mod Printed
+pub mod Process
+pub mod Trips

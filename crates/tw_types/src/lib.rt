@@ -4,13 +4,23 @@
 //! have a spelling.
 #![tactic(auto)]
 
+mod answer;
 mod copies;
 mod datagram;
+mod listed;
 mod message;
+mod outputs;
+mod row;
+mod step;
 mod team;
 
+pub use answer::{Answer, ProposeFault, Reason};
 pub use datagram::{Body, Datagram, Echo, Head, Want, Why, WireFault};
+pub use listed::Listed;
 pub use message::{
     Atom, Decision, Entry, Kept, Kind, Member, Order, Report, Seat, Support, TimeMark, UpdateId,
 };
+pub use outputs::{Earlies, How, Mode, Outputs, Pass, Passes, Sends, View};
+pub use row::{Row, RowAnswer, RowLine};
+pub use step::{Act, Cause, Step};
 pub use team::{Team, TeamFault, maj};

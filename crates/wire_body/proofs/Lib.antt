@@ -1,4 +1,9 @@
+pub mod Rows
 pub mod Whole
+pub mod ListReads
+pub mod EntryReads
+pub mod DecisionReads
+pub mod VoteReads
 pub mod Parts
 pub mod Datagrams
 pub mod Examples

@@ -1,146 +1,60 @@
 -- The parts of bodies: what is read is spelled so, and what is spelled so is read.
-use Rattle.std.proofs.Common.{◌≡◌, ℕ, zero, suc, ◌+◌, ◌-◌, ◌*◌, ◌/◌, ◌%◌, ◌^◌, ◌<◌, ◌≤◌, min, Bool, true, false, nat_le, ◌==◌, List, length, Option, Some, None, refl, sym, ap, subst, ◌∙◌, append_assoc, arith}
-use Rattle.std.specs.Prelude.{IfSome, is_some}
-use Rattle.std.specs.Int.{w16, w32, w64}
+use Rattle.std.proofs.Common.{◌≡◌, ℕ, zero, suc, ◌+◌, ◌-◌, ◌%◌, ◌^◌, ◌<◌, ◌≤◌, min, Bool, true, false, nat_le, ◌==◌, List, length, Option, refl, sym, ap, subst, ◌∙◌, arith}
+use Rattle.std.specs.Prelude.{IfSome}
+use Rattle.std.specs.Int.{w16, w64}
+use Rattle.std.proofs.lemmas.Bool.{eqb-true}
 use Rattle.std.proofs.lemmas.Bool.Decides.{nat_tests}
 use Rattle.std.proofs.lemmas.List.{append-nil}
 use Rattle.tw_types.specs.declared.message.UpdateId.{UpdateId}
-use Rattle.tw_types.specs.declared.message.Order.{Order}
-use Rattle.tw_types.specs.declared.message.Order.TheVariants.{Unordered, Total, Timed}
-use Rattle.tw_types.specs.declared.message.Atom.{Atom}
-use Rattle.tw_types.specs.declared.message.Atom.TheVariants.{Weak, Strong, Strict}
 use Rattle.tw_types.specs.declared.message.Kept.{Kept}
 use Rattle.tw_types.specs.declared.datagram.Why.{Why}
 use Rattle.tw_types.specs.declared.datagram.Why.TheVariants.{Stuck, Join}
 use Rattle.tw_types.specs.declared.datagram.Want.{Want}
 use Rattle.tw_types.specs.declared.datagram.Want.TheVariants as wants
 use Rattle.tw_types.specs.declared.datagram.WireFault.TheVariants.{Field}
-use Rattle.tw_types.specs.Bytes.{presence}
+use Rattle.tw_types.specs.Bytes.{counted}
 use Rattle.tw_types.specs.Ranges.{IsPositive, IdFits, UpdateFits, WhyFits, WantFits, ElectionFits, StateFits, ReadyFits}
-use Rattle.tw_types.specs.Spelling.{order_number, atom_number, lateness, class_of, id_bytes, update_bytes, why_number, why_group, why_bytes, election_bytes, want_number, wanted_bytes, want_bytes, state_bytes, ready_bytes, sync_bytes}
-use Rattle.wire_head.proofs.Numbers.{IsBytes, wide16, wide32, wide64, Reads}
-use Rattle.wire_head.proofs.Steps.{step, last, last_to, renamed, respelled, made_reads, checked_reads, fixed_reads, count_reads, positive_reads, byte_to_reads, byte_below_reads, text_reads, guarded_reads}
-use Rattle.wire_body.specs.Reading.{is_seq, id_at, order_from, atom_from, update_at, is_group_for, why_from, why_at, election_at, wanted_at, want_at, want_end, Piece, is_total, is_offset_below, piece_at, ready_at, sync_at}
-
--- ---- an id
-
-record IsSeq (n : ℕ) : Type 0 where
-  first : 1 ≤ n
-  last : n ≤ 4294967294
-
-pub id_reads : (n : ℕ) → n < 2 ^ 8 → (bytes : List ℕ) (fits : IsBytes bytes) (place next : ℕ) → next ≡ place + 13 → Reads bytes place (IdFits n) id_bytes (λ id. next) (id_at n bytes place)
-unfolding id_at
-id_reads n small bytes fits place next e =
-    renamed (IdFits n)
-    (step (λ (id : UpdateId). id.who) (byte_below_reads bytes fits place (place + 1) n small refl) (λ who who-is.
-    step (λ (id : UpdateId). id.incarnation) (count_reads bytes fits (place + 1) (place + 9) (omega arith)) (λ incarnation incarnation-is.
-    step (λ (id : UpdateId). id.seq) (checked_reads w32 (2 ^ 32) wide32 is_seq (Field (place + 9)) IsSeq (λ m t. record { first = grind (arith, nat_tests); last = grind (arith, nat_tests) }) (λ m is. let a = is.first in let b = is.last in (omega arith, grind (arith, nat_tests))) bytes fits (place + 9) next (omega arith)) (λ seq seq-is.
-    last (record { who = who; incarnation = incarnation; seq = seq }))
-    (λ seq seq-is id is. ap (λ (z : UpdateId). z.seq) is))
-    (λ incarnation incarnation-is id is. ap (λ (z : UpdateId). z.incarnation) is.1))
-    (λ who who-is id is. ap (λ (z : UpdateId). z.who) is.1.1))
-    (λ id is. record { who = is.0; incarnation = is.1.0; first = is.1.1.0.first; last = is.1.1.0.last })
-    (λ id is. (is.who, (is.incarnation, (record { first = is.first; last = is.last }, refl))))
+use Rattle.tw_types.specs.Spelling.{verbatim, update_bytes, why_number, why_group, why_bytes, election_bytes, want_number, wanted_bytes, want_bytes, state_bytes, ready_bytes, sync_bytes}
+use Rattle.wire_head.specs.Reading.{text_at}
+use Rattle.wire_head.proofs.Numbers.{IsBytes, wide16, wide64, Reads}
+use Rattle.wire_head.proofs.Steps.{step, last, last_to, renamed, respelled, made_reads, checked_reads, count_reads, positive_reads, byte_to_reads, text_reads}
+use Rattle.wire_body.specs.Lists.{counted_at}
+use Rattle.wire_body.specs.Reading.{update_at, is_group_for, why_from, why_at, election_at, wanted_at, want_at, want_end, Piece, is_total, is_offset_below, piece_at, ready_at, sync_at}
+use Rattle.wire_body.proofs.ListReads.{counted_reads, optional_reads}
+use Rattle.wire_body.proofs.EntryReads.{id_reads, entry_reads}
 
 -- ---- an update
-
-order_back : (q : ℕ) → q ≤ 2 → order_number (order_from q) ≡ q
-order_back zero le = refl
-order_back (suc zero) le = refl
-order_back (suc (suc zero)) le = refl
-order_back (suc (suc (suc q))) le = absurd (omega arith)
-
-atom_back : (r : ℕ) → r ≤ 2 → atom_number (atom_from r) ≡ r
-atom_back zero le = refl
-atom_back (suc zero) le = refl
-atom_back (suc (suc zero)) le = refl
-atom_back (suc (suc (suc r))) le = absurd (omega arith)
-
-class_back : (class : ℕ) → class ≤ 8 → 3 * order_number (order_from (class / 3)) + atom_number (atom_from (class % 3)) + 0 ≡ class
-class_back class le =
-    let high = order_back (class / 3) (omega arith) in
-    let low = atom_back (class % 3) (omega arith) in
-    rw (high, low) (omega arith)
-
-class_small : (o : Order) (a : Atom) → 3 * order_number o + atom_number a + 0 ≤ 8
-class_small Unordered Weak = omega arith
-class_small Unordered Strong = omega arith
-class_small Unordered Strict = omega arith
-class_small Total Weak = omega arith
-class_small Total Strong = omega arith
-class_small Total Strict = omega arith
-class_small Timed Weak = omega arith
-class_small Timed Strong = omega arith
-class_small Timed Strict = omega arith
-
-order_again : (o : Order) (a : Atom) → order_from ((3 * order_number o + atom_number a + 0) / 3) ≡ o
-order_again Unordered Weak = refl
-order_again Unordered Strong = refl
-order_again Unordered Strict = refl
-order_again Total Weak = refl
-order_again Total Strong = refl
-order_again Total Strict = refl
-order_again Timed Weak = refl
-order_again Timed Strong = refl
-order_again Timed Strict = refl
-
-atom_again : (o : Order) (a : Atom) → atom_from ((3 * order_number o + atom_number a + 0) % 3) ≡ a
-atom_again Unordered Weak = refl
-atom_again Unordered Strong = refl
-atom_again Unordered Strict = refl
-atom_again Total Weak = refl
-atom_again Total Strong = refl
-atom_again Total Strict = refl
-atom_again Timed Weak = refl
-atom_again Timed Strong = refl
-atom_again Timed Strict = refl
-
--- the update that is made of an id, a class, a stamp and a payload
-abbrev kept_from : UpdateId → ℕ → ℕ → List ℕ → Kept
-kept_from id class stamp payload = record {
-  entry = record { id = id; order = order_from (class / 3); atom = atom_from (class % 3); stamp = stamp; late = false };
-  early = false;
-  payload = record { items = payload };
-}
-
-kept_made : (id : UpdateId) (o : Order) (a : Atom) (stamp : ℕ) (late early : Bool) (payload : List ℕ) → late ≡ false → early ≡ false
-    → record { entry = record { id = id; order = o; atom = a; stamp = stamp; late = late }; early = early; payload = record { items = payload } } ≡ kept_from id (3 * order_number o + atom_number a + lateness late) stamp payload
-kept_made id o a stamp late early payload l e = rw (l, e, order_again o a, atom_again o a) refl
-
-kept_is : (k : Kept) → k.entry.late ≡ false → k.early ≡ false → k ≡ kept_from k.entry.id (class_of k.entry) k.entry.stamp k.payload.items
-kept_is k l e = kept_made k.entry.id k.entry.order k.entry.atom k.entry.stamp k.entry.late k.early k.payload.items l e
-
-class_is : (k : Kept) (id : UpdateId) (class stamp : ℕ) (payload : List ℕ) → class ≤ 8 → k ≡ kept_from id class stamp payload → class_of k.entry ≡ class
-class_is k id class stamp payload le is = ap (λ (z : Kept). class_of z.entry) is ∙ class_back class le
-
-class_low : (k : Kept) → k.entry.late ≡ false → class_of k.entry ≤ 8
-class_low k l = rw l (class_small k.entry.order k.entry.atom)
 
 record IsSize (most n : ℕ) : Type 0 where
   at_most : n ≤ most
 
+-- bytes that stand for themselves, behind their number
+bytes_reads : (allowed : ℕ → Bool) (IsNumber : ℕ → Type 0) → ((k : ℕ) → allowed k ≡ true → IsNumber k) → ((k : ℕ) → IsNumber k → (k < 2 ^ 16) × (allowed k ≡ true)) → (bytes : List ℕ) (fits : IsBytes bytes) (place : ℕ) → Reads bytes place (λ t. IsNumber (length t)) (counted w16 verbatim) (λ t. place + 2 + length t) (counted_at w16 allowed text_at bytes place)
+bytes_reads allowed IsNumber to back bytes fits place =
+    renamed (λ (t : List ℕ). IsNumber (length t))
+    (counted_reads w16 (2 ^ 16) wide16 allowed IsNumber to back text_at (λ t. Unit {0}) verbatim (λ t. place + 2 + length t) bytes fits place
+    (λ k. renamed (λ (t : List ℕ). (length t ≡ k) × Unit {0}) (text_reads k bytes (place + 2)) (λ t is. (is, tt)) (λ t is. is.0)))
+    (λ t is. is.0)
+    (λ t is. (is, tt))
+
 pub update_reads : (n : ℕ) → n < 2 ^ 8 → (bytes : List ℕ) (fits : IsBytes bytes) → Reads bytes 57 (UpdateFits n) update_bytes (λ k. 81 + length k.payload.items) (update_at n bytes)
 unfolding update_at
 update_reads n small bytes fits =
-    respelled update_bytes (λ k. simp append_assoc)
-    (renamed (UpdateFits n)
-    (step (λ (k : Kept). k.entry.id) (id_reads n small bytes fits 57 70 refl) (λ id id-is.
-    step (λ (k : Kept). class_of k.entry) (byte_to_reads bytes fits 70 71 8 (omega arith) refl) (λ class class-is.
-    step (λ (k : Kept). k.entry.stamp) (count_reads bytes fits 71 79 refl) (λ stamp stamp-is.
-    step (λ (k : Kept). length k.payload.items) (checked_reads w16 (2 ^ 16) wide16 (λ l. nat_le l 128) (Field 79) (IsSize 128) (λ m t. record { at_most = grind (arith, nat_tests) }) (λ m is. let a = is.at_most in (omega arith, grind (arith, nat_tests))) bytes fits 79 81 refl) (λ size size-is.
-    step (λ (k : Kept). k.payload.items) (text_reads size bytes 81) (λ payload payload-is.
-    last_to (kept_from id class stamp payload) (λ k. 81 + length k.payload.items) refl)
+    renamed (UpdateFits n)
+    (step (λ (k : Kept). k.entry) (entry_reads n small false bytes fits 57 79 refl) (λ entry entry-is.
+    step (λ (k : Kept). k.payload.items) (bytes_reads (λ l. nat_le l 128) (IsSize 128) (λ m t. record { at_most = grind (arith, nat_tests) }) (λ m is. let a = is.at_most in (omega arith, grind (arith, nat_tests))) bytes fits 79) (λ payload payload-is.
+    last_to (record { entry = entry; early = false; payload = record { items = payload } }) (λ k. 81 + length k.payload.items) refl)
     (λ payload payload-is k is. ap (λ (z : Kept). z.payload.items) is))
-    (λ size size-is k is. is.0))
-    (λ stamp stamp-is k is. ap (λ (z : Kept). z.entry.stamp) is.1.1))
-    (λ class class-is k is. class_is k _ class _ _ class-is is.1.1.1))
-    (λ id id-is k is. ap (λ (z : Kept). z.entry.id) is.1.1.1.1))
+    (λ entry entry-is k is. ap (λ (z : Kept). z.entry) is.1))
     (λ k is. record {
-      entry = record { id = is.0; late = ap (λ (z : Kept). z.entry.late) is.1.1.1.1.1; stamp = is.1.1.0 };
-      early = ap (λ (z : Kept). z.early) is.1.1.1.1.1;
-      payload = is.1.1.1.0.at_most;
+      entry = record { id = is.0.fits.id; late = is.0.never refl; stamp = is.0.fits.stamp };
+      early = ap (λ (z : Kept). z.early) is.1.1;
+      payload = is.1.0.at_most;
     })
-    (λ k is. (is.entry.id, (class_low k is.entry.late, (is.entry.stamp, (record { at_most = is.payload }, (refl, kept_is k is.entry.late is.early)))))))
+    (λ k is. (record { fits = record { id = is.entry.id; late = λ l. absurd (cc is.entry.late); stamp = is.entry.stamp }; never = λ none. is.entry.late }, (record { at_most = is.payload }, early_is k is.early)))
+  where
+    early_is : (k : Kept) → k.early ≡ false → k ≡ record { entry = k.entry; early = false; payload = record { items = k.payload.items } }
+    early_is k e = ap (λ (b : Bool). record { entry = k.entry; early = b; payload = k.payload }) e
 
 -- ---- an election
 
@@ -260,21 +174,18 @@ record IsOffset (total n : ℕ) : Type 0 where
 pub piece_reads : (bytes : List ℕ) (fits : IsBytes bytes) → Reads bytes 57 (λ (p : Piece). StateFits p.group p.position p.total p.offset p.bytes) (λ p. state_bytes p.group p.position p.total p.offset p.bytes) (λ p. 79 + length p.bytes) (piece_at bytes)
 unfolding piece_at
 piece_reads bytes fits =
-    respelled (λ (p : Piece). state_bytes p.group p.position p.total p.offset p.bytes) (λ p. simp append_assoc)
-    (renamed (λ (p : Piece). StateFits p.group p.position p.total p.offset p.bytes)
+    renamed (λ (p : Piece). StateFits p.group p.position p.total p.offset p.bytes)
     (step (λ (p : Piece). p.group) (positive_reads bytes fits 57 65 refl) (λ group group-is.
     step (λ (p : Piece). p.position) (count_reads bytes fits 65 73 refl) (λ position position-is.
     step (λ (p : Piece). p.total) (checked_reads w16 (2 ^ 16) wide16 is_total (Field 73) IsTotal (λ m t. record { above = grind (arith, nat_tests); below = grind (arith, nat_tests) }) (λ m is. let a = is.above in let b = is.below in (omega arith, grind (arith, nat_tests))) bytes fits 73 75 refl) (λ total total-is.
     step (λ (p : Piece). p.offset) (checked_reads w16 (2 ^ 16) wide16 (is_offset_below total) (Field 75) (IsOffset total) (λ m t. record { below = grind (arith, nat_tests); aligned = grind (arith, nat_tests) }) (λ m is. let a = is.below in let b = is.aligned in let c = total-is.below in (omega arith, grind (arith, nat_tests))) bytes fits 75 77 refl) (λ offset offset-is.
-    step (λ (p : Piece). length p.bytes) (fixed_reads bytes fits 77 79 w16 (2 ^ 16) wide16 (min 1024 (total - offset)) (omega arith) (Field 77) refl) (λ size size-is.
-    step (λ (p : Piece). p.bytes) (text_reads size bytes 79) (λ piece piece-is.
+    step (λ (p : Piece). p.bytes) (bytes_reads (λ l. l == min 1024 (total - offset)) (λ l. l ≡ min 1024 (total - offset)) (λ l t. eqb-true _ _ t) (λ l is. (omega arith, grind (arith, nat_tests))) bytes fits 77) (λ piece piece-is.
     last_to (record { group = group; position = position; total = total; offset = offset; bytes = piece }) (λ p. 79 + length p.bytes) refl)
     (λ piece piece-is p is. ap (λ (z : Piece). z.bytes) is))
-    (λ size size-is p is. is.0))
-    (λ offset offset-is p is. ap (λ (z : Piece). z.offset) is.1.1))
-    (λ total total-is p is. ap (λ (z : Piece). z.total) is.1.1.1))
-    (λ position position-is p is. ap (λ (z : Piece). z.position) is.1.1.1.1))
-    (λ group group-is p is. ap (λ (z : Piece). z.group) is.1.1.1.1.1))
+    (λ offset offset-is p is. ap (λ (z : Piece). z.offset) is.1))
+    (λ total total-is p is. ap (λ (z : Piece). z.total) is.1.1))
+    (λ position position-is p is. ap (λ (z : Piece). z.position) is.1.1.1))
+    (λ group group-is p is. ap (λ (z : Piece). z.group) is.1.1.1.1))
     (λ p is. record {
       group_fits = is.0;
       position_fits = is.1.0;
@@ -284,7 +195,7 @@ piece_reads bytes fits =
       aligned = is.1.1.1.0.aligned;
       piece = is.1.1.1.1.0;
     })
-    (λ p is. (is.group_fits, (is.position_fits, (record { above = is.total_above; below = is.total_fits }, (record { below = is.offset_fits; aligned = is.aligned }, (is.piece, (refl, refl))))))))
+    (λ p is. (is.group_fits, (is.position_fits, (record { above = is.total_above; below = is.total_fits }, (record { below = is.offset_fits; aligned = is.aligned }, (is.piece, refl))))))
 
 -- ---- a sign of life
 
@@ -302,24 +213,6 @@ ready_reads bytes fits place next e =
     (λ r is. record { group = is.0; turn = is.1.0; length = is.1.1.0 })
     (λ r is. (is.group, (is.turn, (is.length, refl))))
 
-presence_known : (present : ℕ) (r : Option (ℕ × ℕ × ℕ)) → present ≤ 1 → is_some r ≡ (present == 1) → presence r ≡ present
-presence_known present None le is = grind (arith, nat_tests)
-presence_known present (Some r) le is = grind (arith, nat_tests)
-
-present_again : (r : Option (ℕ × ℕ × ℕ)) → is_some r ≡ (presence r == 1)
-present_again None = refl
-present_again (Some r) = refl
-
-presence_small : (r : Option (ℕ × ℕ × ℕ)) → presence r ≤ 1
-presence_small None = omega arith
-presence_small (Some r) = omega arith
-
 pub sync_reads : (bytes : List ℕ) (fits : IsBytes bytes) → Reads bytes 57 (λ (r : Option (ℕ × ℕ × ℕ)). IfSome r ReadyFits) sync_bytes (λ r. 82) (sync_at bytes)
 unfolding sync_at
-sync_reads bytes fits =
-    respelled sync_bytes (λ r. simp append-nil)
-    (renamed (λ (r : Option (ℕ × ℕ × ℕ)). IfSome r ReadyFits)
-    (step presence (byte_to_reads bytes fits 57 58 1 (omega arith) refl) (λ present present-is. guarded_reads (present == 1) 3 ready_at ReadyFits ready_bytes bytes fits 58 82 refl (ready_reads bytes fits 58 82 refl))
-    (λ present present-is r is. presence_known present r present-is is.there))
-    (λ r is. is.1.inner)
-    (λ r is. (presence_small r, record { there = present_again r; inner = is })))
+sync_reads bytes fits = respelled sync_bytes (λ r. simp append-nil) (optional_reads 3 ready_at ReadyFits ready_bytes bytes fits 57 82 refl (ready_reads bytes fits 58 82 refl))

@@ -1,2 +1,5 @@
+pub mod Lists
+pub mod Entries
+pub mod Decisions
+pub mod Votes
 pub mod Reading
-pub mod Built

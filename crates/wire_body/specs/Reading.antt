@@ -1,13 +1,9 @@
 -- Reading a body from left to right, and a whole datagram, with the first fault that is met.
-use Rattle.std.specs.Prelude.{ℕ, zero, suc, ◌+◌, ◌-◌, ◌/◌, ◌%◌, min, nat_lt, nat_le, ◌==◌, Bool, false, ◌&&◌, if◌then◌else◌, List, length, Option, Result, Ok, Err}
-use Rattle.std.specs.Int.{w16, w32, w64}
+use Rattle.std.specs.Prelude.{ℕ, zero, suc, ◌+◌, ◌-◌, ◌*◌, ◌%◌, min, nat_lt, nat_le, ◌==◌, Bool, false, ◌&&◌, if◌then◌else◌, List, length, Option, None, Result, Ok, Err}
+use Rattle.std.specs.Int.{w16, w64}
 use Rattle.tw_types.specs.declared.team.Team.{Team}
-use Rattle.tw_types.specs.declared.message.UpdateId.{UpdateId}
-use Rattle.tw_types.specs.declared.message.Order.{Order}
-use Rattle.tw_types.specs.declared.message.Order.TheVariants.{Unordered, Total, Timed}
-use Rattle.tw_types.specs.declared.message.Atom.{Atom}
-use Rattle.tw_types.specs.declared.message.Atom.TheVariants.{Weak, Strong, Strict}
 use Rattle.tw_types.specs.declared.message.Kept.{Kept}
+use Rattle.tw_types.specs.declared.datagram.Head.{Head}
 use Rattle.tw_types.specs.declared.datagram.Why.{Why}
 use Rattle.tw_types.specs.declared.datagram.Why.TheVariants.{Stuck, Join}
 use Rattle.tw_types.specs.declared.datagram.Want.{Want}
@@ -17,45 +13,19 @@ use Rattle.tw_types.specs.declared.datagram.Body.TheVariants as bodies
 use Rattle.tw_types.specs.declared.datagram.Datagram.{Datagram}
 use Rattle.tw_types.specs.declared.datagram.WireFault.{WireFault}
 use Rattle.tw_types.specs.declared.datagram.WireFault.TheVariants.{Long, Kind}
-use Rattle.wire_head.specs.Reading.{◌>>=◌, where_allowed, field_at, is_positive, count_at, positive_at, byte_to, byte_below, text_at, guarded_at, head_at}
+use Rattle.wire_head.specs.Reading.{◌>>=◌, where_allowed, field_at, is_positive, count_at, positive_at, byte_to, text_at, head_at}
+use Rattle.wire_body.specs.Lists.{counted_at, optional_at}
+use Rattle.wire_body.specs.Entries.{id_at, entry_at}
+use Rattle.wire_body.specs.Decisions.{decision_at, decision_size}
+use Rattle.wire_body.specs.Votes.{promise_at, promise_of, optional_size, no_decision_at, no_decision_of}
 
 -- ---- an update
 
--- every seq but the last number of four bytes
-abbrev pub is_seq : ℕ → Bool
-is_seq n = nat_le 1 n && nat_le n 4294967294
-
--- n is the team's size
-unfoldable pub id_at : ℕ → List ℕ → ℕ → Result UpdateId WireFault
-id_at n bytes place = do
-  who ← byte_below n bytes place
-  incarnation ← count_at bytes (place + 1)
-  seq ← field_at w32 is_seq bytes (place + 9)
-  Ok (record { who = who; incarnation = incarnation; seq = seq })
-
-abbrev pub order_from : ℕ → Order
-order_from zero = Unordered
-order_from (suc zero) = Total
-order_from (suc (suc number)) = Timed
-
-abbrev pub atom_from : ℕ → Atom
-atom_from zero = Weak
-atom_from (suc zero) = Strong
-atom_from (suc (suc number)) = Strict
-
--- the class of an entry that isn't late: nine of them
 unfoldable pub update_at : ℕ → List ℕ → Result Kept WireFault
 update_at n bytes = do
-  id ← id_at n bytes 57
-  class ← byte_to 8 bytes 70
-  stamp ← count_at bytes 71
-  size ← field_at w16 (λ l. nat_le l 128) bytes 79
-  payload ← text_at size bytes 81
-  Ok (record {
-    entry = record { id = id; order = order_from (class / 3); atom = atom_from (class % 3); stamp = stamp; late = false };
-    early = false;
-    payload = record { items = payload };
-  })
+  entry ← entry_at n false bytes 57
+  payload ← counted_at w16 (λ l. nat_le l 128) text_at bytes 79
+  Ok (record { entry = entry; early = false; payload = record { items = payload } })
 
 -- ---- an election
 
@@ -121,8 +91,7 @@ piece_at bytes = do
   position ← count_at bytes 65
   total ← field_at w16 is_total bytes 73
   offset ← field_at w16 (is_offset_below total) bytes 75
-  size ← field_at w16 (λ l. l == min 1024 (total - offset)) bytes 77
-  piece ← text_at size bytes 79
+  piece ← counted_at w16 (λ l. l == min 1024 (total - offset)) text_at bytes 77
   Ok (record { group = group; position = position; total = total; offset = offset; bytes = piece })
 
 abbrev pub state_of : Piece → Body
@@ -138,9 +107,7 @@ ready_at bytes place = do
   Ok (group, turn, length)
 
 unfoldable pub sync_at : List ℕ → Result (Option (ℕ × ℕ × ℕ)) WireFault
-sync_at bytes = do
-  present ← byte_to 1 bytes 57
-  guarded_at (present == 1) 3 ready_at bytes 58
+sync_at bytes = optional_at 3 ready_at bytes 57
 
 -- ---- bodies and datagrams
 
@@ -153,19 +120,27 @@ in_body body_of end_of read = do
 abbrev pub election_of : ℕ × Why → Body
 election_of e = bodies.Election e.0 e.1
 
--- the body of this kind; a kind that isn't built is refused
-unfoldable pub body_at : ℕ → ℕ → List ℕ → Result (Body × ℕ) WireFault
-body_at n kind bytes =
+-- the body of this kind, behind this head
+unfoldable pub body_at : ℕ → Head → ℕ → List ℕ → Result (Body × ℕ) WireFault
+body_at n head kind bytes =
     if kind == 1 then in_body bodies.Update (λ k. 81 + length k.payload.items) (update_at n bytes)
+    else if kind == 2 then in_body bodies.Decision (λ d. 57 + decision_size d) (decision_at n None None bytes 57)
+    else if kind == 3 then in_body no_decision_of (λ g. 83 + 51 * length g.reports + decision_size g.best) (no_decision_at n bytes)
     else if kind == 4 then in_body election_of (λ e. 74) (election_at bytes)
+    else if kind == 5 then in_body promise_of (λ p. 117 + optional_size p.decision) (promise_at n head bytes)
     else if kind == 6 then in_body bodies.Ask want_end (want_at n bytes)
     else if kind == 7 then in_body state_of (λ p. 79 + length p.bytes) (piece_at bytes)
     else if kind == 8 then in_body bodies.Sync (λ r. 82) (sync_at bytes)
     else Err Kind
 
+-- the datagram with this head and the body that was read, where nothing follows
+abbrev pub whole : Head → List ℕ → Result (Body × ℕ) WireFault → Result Datagram WireFault
+whole head bytes read = do
+  body ← read
+  where_allowed (nat_le (length bytes) body.1) Long (record { head = head; body = body.0 })
+
 -- all of the bytes
 unfoldable pub datagram_at : Team → List ℕ → Result Datagram WireFault
 datagram_at team bytes = do
   head ← head_at team bytes
-  body ← body_at team.n head.1 bytes
-  where_allowed (nat_le (length bytes) body.1) Long (record { head = head.0; body = body.0 })
+  whole head.0 bytes (body_at team.n head.0 head.1 bytes)

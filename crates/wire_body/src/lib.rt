@@ -4,7 +4,11 @@
 //! no other bytes are read as it.
 #![tactic(auto)]
 
+mod decisions;
+mod entries;
+mod items;
 mod reading;
+mod votes;
 mod writing;
 
 pub use reading::read;

@@ -1,58 +1,25 @@
 //! Reading a whole datagram.
 
-ghost use Rattle.std.specs.Prelude.{◌≡◌, ◌+◌, ◌<◌, ◌≤◌, ◌^◌, ◌++◌, ℕ, List, length, IfOk, Ok, Err};
+ghost use Rattle.std.specs.Prelude.{◌≡◌, ◌+◌, ◌<◌, ◌≤◌, ◌^◌, ◌++◌, ℕ, List, length, nat_le, None, IfOk, Ok, Err};
+ghost use Rattle.tw_types.specs.declared.datagram.Body.TheVariants as bodies;
 ghost use Rattle.tw_types.specs.declared.datagram.Datagram.{Datagram};
 ghost use Rattle.tw_types.specs.declared.datagram.WireFault.TheVariants.{Short, Long, Kind};
 ghost use Rattle.tw_types.specs.Team.{IsSound};
 ghost use Rattle.tw_types.specs.Ranges.{DatagramFits};
 ghost use Rattle.tw_types.specs.Spelling.{spelling};
-ghost use Rattle.wire_body.specs.Built.{IsBuilt};
-ghost use Rattle.wire_body.specs.Reading.{id_at, order_from, atom_from, update_at, why_at, election_at, election_of, wanted_at, want_at, want_end, piece_at, state_of, ready_at, sync_at, in_body, body_at, datagram_at};
-ghost use Rattle.wire_head.specs.Reading.{guarded_at};
+ghost use Rattle.wire_head.specs.Reading.{where_allowed};
+ghost use Rattle.wire_body.specs.Decisions.{decision_at, decision_size};
+ghost use Rattle.wire_body.specs.Reading.{update_at, why_at, election_at, election_of, wanted_at, want_at, want_end, piece_at, state_of, ready_at, sync_at, in_body, body_at, whole, datagram_at};
 
+use crate::decisions::{decision_at, decision_size};
+use crate::entries::{entry_at, id_at};
+use crate::votes::{no_decision_in, promise_in};
 use arrayvec::ArrayVec;
-use tw_types::{Atom, Body, Datagram, Entry, Kept, Order, Team, UpdateId, Want, Why, WireFault};
+use tw_types::{Body, Datagram, Head, Kept, Team, Want, Why, WireFault};
 use wire_head::read_head;
 use wire_head::reading::{
-    byte_below, byte_to, count_at, positive_at, text_at, u16_at, u32_at, u64_at, where_allowed,
-    zeros_at,
+    byte_to, count_at, positive_at, text_at, u16_at, u32_at, u64_at, where_allowed, zeros_at,
 };
-
-#[tactic(auto, unfolding(crate::specs::Reading::id_at, wire_head::specs::Reading::checked_at))]
-fn id_at(n: u8, bytes: &[u8], place: usize) -> Result<UpdateId, WireFault>
-    requires { place < 2 ^ 15 }
-    ensures { result ≡ id_at n bytes.now place }
-{
-    let who = byte_below(n, bytes, place)?;
-    let incarnation = count_at(bytes, place + 1)?;
-    let seq = u32_at(bytes, place + 9)?;
-    where_allowed(1 <= seq && seq <= 4_294_967_294, (), place + 9)?;
-    Ok(UpdateId {
-        who,
-        incarnation,
-        seq,
-    })
-}
-
-fn order_from(number: u8) -> Order
-    ensures { result ≡ order_from number }
-{
-    match number {
-        0 => Order::Unordered,
-        1 => Order::Total,
-        _ => Order::Timed,
-    }
-}
-
-fn atom_from(number: u8) -> Atom
-    ensures { result ≡ atom_from number }
-{
-    match number {
-        0 => Atom::Weak,
-        1 => Atom::Strong,
-        _ => Atom::Strict,
-    }
-}
 
 fn bytes_of<const N: usize>(text: &[u8]) -> ArrayVec<u8, N>
     requires { length text.now ≤ N }
@@ -63,23 +30,14 @@ fn bytes_of<const N: usize>(text: &[u8]) -> ArrayVec<u8, N>
     bytes
 }
 
-#[tactic(auto, unfolding(crate::specs::Reading::update_at, wire_head::specs::Reading::checked_at))]
+#[tactic(auto, unfolding(crate::specs::Reading::update_at, crate::specs::Lists::counted_at, wire_head::specs::Reading::checked_at))]
 fn update_at(n: u8, bytes: &[u8]) -> Result<Kept, WireFault>
     ensures { result ≡ update_at n bytes.now }
 {
-    let id = id_at(n, bytes, 57)?;
-    let class = byte_to(8, bytes, 70)?;
-    let stamp = count_at(bytes, 71)?;
+    let entry = entry_at(n, false, bytes, 57)?;
     let size = u16_at(bytes, 79)?;
     where_allowed(size <= 128, (), 79)?;
     let payload = text_at(size.into(), bytes, 81)?;
-    let entry = Entry {
-        id,
-        order: order_from(class / 3),
-        atom: atom_from(class % 3),
-        stamp,
-        late: false,
-    };
     Ok(Kept {
         entry,
         early: false,
@@ -123,9 +81,10 @@ fn want_at(n: u8, bytes: &[u8]) -> Result<Want, WireFault>
     }
 }
 
-#[tactic(auto, unfolding(crate::specs::Reading::piece_at, wire_head::specs::Reading::checked_at))]
-fn state_at(bytes: &[u8]) -> Result<(Body, usize), WireFault>
-    ensures { result ≡ in_body state_of (λ p. 79 + length p.bytes) (piece_at bytes.now) }
+#[tactic(auto, unfolding(crate::specs::Reading::piece_at, crate::specs::Lists::counted_at, wire_head::specs::Reading::checked_at))]
+#[inline(never)]
+fn state_in(head: &Head, bytes: &[u8]) -> Result<Datagram, WireFault>
+    ensures { result ≡ whole head.now bytes.now (in_body state_of (λ p. 79 + length p.bytes) (piece_at bytes.now)) }
 {
     let group = positive_at(bytes, 57)?;
     let position = count_at(bytes, 65)?;
@@ -136,6 +95,7 @@ fn state_at(bytes: &[u8]) -> Result<(Body, usize), WireFault>
     let size = u16_at(bytes, 77)?;
     where_allowed(size == (total - offset).min(1024), (), 77)?;
     let piece = text_at(size.into(), bytes, 79)?;
+    ends_at(bytes, 79 + piece.len())?;
     let body = Body::State {
         group,
         position,
@@ -143,7 +103,7 @@ fn state_at(bytes: &[u8]) -> Result<(Body, usize), WireFault>
         offset,
         bytes: bytes_of(piece),
     };
-    Ok((body, 79 + piece.len()))
+    Ok(Datagram { head: *head, body })
 }
 
 #[tactic(auto, unfolding(crate::specs::Reading::ready_at))]
@@ -157,7 +117,7 @@ fn ready_at(bytes: &[u8], place: usize) -> Result<(u64, u64, u64), WireFault>
     Ok((group, turn, length))
 }
 
-#[tactic(auto, unfolding(crate::specs::Reading::sync_at, wire_head::specs::Reading::guarded_at))]
+#[tactic(auto, unfolding(crate::specs::Reading::sync_at, crate::specs::Lists::optional_at, wire_head::specs::Reading::guarded_at))]
 fn sync_at(bytes: &[u8]) -> Result<Option<(u64, u64, u64)>, WireFault>
     ensures { result ≡ sync_at bytes.now }
 {
@@ -170,30 +130,97 @@ fn sync_at(bytes: &[u8]) -> Result<Option<(u64, u64, u64)>, WireFault>
     }
 }
 
+/// Nothing follows this place.
+pub fn ends_at(bytes: &[u8], end: usize) -> Result<(), WireFault>
+    ensures { result ≡ where_allowed (nat_le (length bytes.now) end) Long tt }
+{
+    if bytes.len() > end {
+        return Err(WireFault::Long);
+    }
+    Ok(())
+}
+
+/// The datagram with this head and an update.
+///
+/// Like the readers of the other kinds it isn't inlined, since a function pays at entry for the room of all that it may
+/// build.
+#[inline(never)]
+fn update_in(n: u8, head: &Head, bytes: &[u8]) -> Result<Datagram, WireFault>
+    ensures { result ≡ whole head.now bytes.now (in_body bodies.Update (λ k. 81 + length k.payload.items) (update_at n bytes.now)) }
+{
+    let kept = update_at(n, bytes)?;
+    ends_at(bytes, 81 + kept.payload.len())?;
+    Ok(Datagram {
+        head: *head,
+        body: Body::Update(kept),
+    })
+}
+
+#[inline(never)]
+fn decision_in(n: u8, head: &Head, bytes: &[u8]) -> Result<Datagram, WireFault>
+    requires { n ≤ 15 }
+    ensures { result ≡ whole head.now bytes.now (in_body bodies.Decision (λ d. 57 + decision_size d) (decision_at n None None bytes.now 57)) }
+{
+    let decision = decision_at(n, None, None, bytes, 57)?;
+    ends_at(bytes, 57 + decision_size(&decision))?;
+    Ok(Datagram {
+        head: *head,
+        body: Body::Decision(decision),
+    })
+}
+
+#[inline(never)]
+fn election_in(head: &Head, bytes: &[u8]) -> Result<Datagram, WireFault>
+    ensures { result ≡ whole head.now bytes.now (in_body election_of (λ e. 74) (election_at bytes.now)) }
+{
+    let (number, why) = election_at(bytes)?;
+    ends_at(bytes, 74)?;
+    Ok(Datagram {
+        head: *head,
+        body: Body::Election { number, why },
+    })
+}
+
+#[inline(never)]
+fn ask_in(n: u8, head: &Head, bytes: &[u8]) -> Result<Datagram, WireFault>
+    ensures { result ≡ whole head.now bytes.now (in_body bodies.Ask want_end (want_at n bytes.now)) }
+{
+    let want = want_at(n, bytes)?;
+    ends_at(bytes, want_end(&want))?;
+    Ok(Datagram {
+        head: *head,
+        body: Body::Ask(want),
+    })
+}
+
+#[inline(never)]
+fn sync_in(head: &Head, bytes: &[u8]) -> Result<Datagram, WireFault>
+    ensures { result ≡ whole head.now bytes.now (in_body bodies.Sync (λ r. 82) (sync_at bytes.now)) }
+{
+    let ready = sync_at(bytes)?;
+    ends_at(bytes, 82)?;
+    Ok(Datagram {
+        head: *head,
+        body: Body::Sync { ready },
+    })
+}
+
+/// The datagram with this head, and a body of this kind that ends with the bytes.
 #[tactic(auto, unfolding(crate::specs::Reading::body_at))]
-fn body_at(n: u8, kind: u8, bytes: &[u8]) -> Result<(Body, usize), WireFault>
-    ensures { result ≡ body_at n kind bytes.now }
+fn body_in(n: u8, head: &Head, kind: u8, bytes: &[u8]) -> Result<Datagram, WireFault>
+    requires { n ≤ 15 }
+    ensures { result ≡ whole head.now bytes.now (body_at n head.now kind bytes.now) }
 {
     match kind {
-        1 => {
-            let kept = update_at(n, bytes)?;
-            let end = 81 + kept.payload.len();
-            Ok((Body::Update(kept), end))
-        }
-        4 => {
-            let (number, why) = election_at(bytes)?;
-            Ok((Body::Election { number, why }, 74))
-        }
-        6 => {
-            let want = want_at(n, bytes)?;
-            Ok((Body::Ask(want), want_end(&want)))
-        }
-        7 => state_at(bytes),
-        8 => {
-            let ready = sync_at(bytes)?;
-            Ok((Body::Sync { ready }, 82))
-        }
-        // The kinds that aren't built.
+        1 => update_in(n, head, bytes),
+        2 => decision_in(n, head, bytes),
+        3 => no_decision_in(n, head, bytes),
+        4 => election_in(head, bytes),
+        5 => promise_in(n, head, bytes),
+        6 => ask_in(n, head, bytes),
+        7 => state_in(head, bytes),
+        8 => sync_in(head, bytes),
+        // The head has one of the eight.
         _ => Err(WireFault::Kind),
     }
 }
@@ -217,31 +244,24 @@ fn all_at(team: &Team, bytes: &[u8]) -> Result<Datagram, WireFault>
     // The proofs take from this that the line is a number of four bytes.
     let _line = team.line;
     let (head, kind) = read_head(team, bytes)?;
-    let (body, end) = body_at(team.n, kind, bytes)?;
-    if bytes.len() > end {
-        return Err(WireFault::Long);
-    }
-    Ok(Datagram { head, body })
+    body_in(team.n, &head, kind, bytes)
 }
 
 /// The datagram that the bytes spell, all of the bytes.
 ///
 /// The fault is the first one from left to right. Short comes where the bytes end within a field, Version where the
 /// version isn't 1, Kind where the kind isn't 1 to 8, Line where the line isn't that of the team, `Field` with the place
-/// of the field's first byte for another value that isn't allowed, and Long where bytes follow the last field. A body
-/// of kind 2, 3 or 5 is refused as Kind behind a good head.
+/// of the field's first byte for another value that isn't allowed, and Long where bytes follow the last field.
 pub fn read(team: &Team, bytes: &[u8]) -> Result<Datagram, WireFault>
     requires { IsSound team.now }
     // What is read is spelled so.
-    ensures found { IfOk result (λ d. DatagramFits team.now.n d × IsBuilt d.body × (bytes.now ≡ spelling team.now.line d)) }
+    ensures found { IfOk result (λ d. DatagramFits team.now.n d × (bytes.now ≡ spelling team.now.line d)) }
     // What is spelled so is read.
-    ensures only { (d : Datagram) → DatagramFits team.now.n d → IsBuilt d.body → bytes.now ≡ spelling team.now.line d → result ≡ Ok d }
+    ensures only { (d : Datagram) → DatagramFits team.now.n d → bytes.now ≡ spelling team.now.line d → result ≡ Ok d }
     // What ends within such a spelling is cut short.
-    ensures cut { (d : Datagram) (more : List ℕ) → DatagramFits team.now.n d → IsBuilt d.body → 0 < length more → spelling team.now.line d ≡ bytes.now ++ more → result ≡ Err Short }
+    ensures cut { (d : Datagram) (more : List ℕ) → DatagramFits team.now.n d → 0 < length more → spelling team.now.line d ≡ bytes.now ++ more → result ≡ Err Short }
     // What goes on behind one is too long.
-    ensures longer { (d : Datagram) (more : List ℕ) → DatagramFits team.now.n d → IsBuilt d.body → 0 < length more → bytes.now ≡ spelling team.now.line d ++ more → result ≡ Err Long }
-    // The kinds that aren't built.
-    ensures unbuilt { (d : Datagram) → DatagramFits team.now.n d → (IsBuilt d.body → ⊥) → bytes.now ≡ spelling team.now.line d → result ≡ Err Kind }
+    ensures longer { (d : Datagram) (more : List ℕ) → DatagramFits team.now.n d → 0 < length more → bytes.now ≡ spelling team.now.line d ++ more → result ≡ Err Long }
     // Which fault it is.
     ensures exact { result ≡ datagram_at team.now bytes.now }
 {

@@ -5,51 +5,15 @@ ghost use Rattle.std.specs.Int.{w16};
 ghost use Rattle.tw_types.specs.Team.{IsSound};
 ghost use Rattle.tw_types.specs.Bytes.{counted};
 ghost use Rattle.tw_types.specs.Ranges.{DatagramFits};
-ghost use Rattle.tw_types.specs.Spelling.{spelling, kind_of, id_bytes, class_of, entry_bytes, verbatim, update_bytes, why_number, why_group, why_bytes, election_bytes, want_bytes, state_bytes, ready_bytes, sync_bytes, body_bytes};
+ghost use Rattle.tw_types.specs.Spelling.{spelling, kind_of, verbatim, update_bytes, why_number, why_group, why_bytes, election_bytes, want_bytes, state_bytes, ready_bytes, sync_bytes, body_bytes};
 ghost use Rattle.wire_head.specs.Writing.{Writes};
-ghost use Rattle.wire_body.specs.Built.{IsBuilt};
 
-use tw_types::{Atom, Body, Datagram, Entry, Kept, Order, Team, UpdateId, Want, Why};
+use crate::decisions::put_decision;
+use crate::entries::{put_entry, put_id};
+use crate::votes::{put_no_decision, put_promise};
+use tw_types::{Body, Datagram, Kept, Team, Want, Why};
 use wire_head::write_head;
 use wire_head::writing::{put_byte, put_text, put_u16, put_u32, put_u64, put_zeros};
-
-fn put_id(out: &mut [u8; 4096], place: usize, id: &UpdateId) -> usize
-    requires { place + 13 ≤ 4096 }
-    ensures end { result ≡ place + 13 }
-    ensures text { Writes out.old place (id_bytes id.now) out.new result }
-{
-    let place = put_byte(out, place, id.who);
-    let place = put_u64(out, place, id.incarnation);
-    put_u32(out, place, id.seq)
-}
-
-/// Order, atomicity and lateness in one number.
-fn class_of(entry: &Entry) -> u8
-    ensures { result ≡ class_of entry.now }
-{
-    let order = match entry.order {
-        Order::Unordered => 0,
-        Order::Total => 1,
-        Order::Timed => 2,
-    };
-    let atom = match entry.atom {
-        Atom::Weak => 0,
-        Atom::Strong => 1,
-        Atom::Strict => 2,
-    };
-    let late = if entry.late { 16 } else { 0 };
-    3 * order + atom + late
-}
-
-fn put_entry(out: &mut [u8; 4096], place: usize, entry: &Entry) -> usize
-    requires { place + 22 ≤ 4096 }
-    ensures end { result ≡ place + 22 }
-    ensures text { Writes out.old place (entry_bytes entry.now) out.new result }
-{
-    let place = put_id(out, place, &entry.id);
-    let place = put_byte(out, place, class_of(entry));
-    put_u64(out, place, entry.stamp)
-}
 
 /// Bytes behind their number, which is written in two bytes.
 fn put_counted(out: &mut [u8; 4096], place: usize, text: &[u8]) -> usize
@@ -181,13 +145,27 @@ fn kind_of(body: &Body) -> u8
 }
 
 fn put_body(team: &Team, d: &Datagram, out: &mut [u8; 4096]) -> usize
+    requires size { team.now.n ≤ 15 }
     requires fits { DatagramFits team.now.n d.now }
-    requires built { IsBuilt d.now.body }
     ensures { Writes out.old 57 (body_bytes d.now.body) out.new result }
 {
     match &d.body {
         Body::Update(kept) => put_update(out, kept),
+        Body::Decision(decision) => put_decision(out, 57, decision),
+        Body::NoDecision {
+            number,
+            group,
+            turn,
+            skip,
+            reports,
+            best,
+        } => put_no_decision(out, *number, *group, *turn, *skip, reports, best),
         Body::Election { number, why } => put_election(out, *number, *why),
+        Body::Promise {
+            number,
+            report,
+            decision,
+        } => put_promise(out, *number, report, decision),
         Body::Ask(want) => put_want(out, want),
         Body::State {
             group,
@@ -197,19 +175,16 @@ fn put_body(team: &Team, d: &Datagram, out: &mut [u8; 4096]) -> usize
             bytes,
         } => put_state(out, *group, *position, *total, *offset, bytes.as_slice()),
         Body::Sync { ready } => put_sync(out, *ready),
-        // The kinds that aren't built, which the condition on the body leaves out.
-        Body::Decision(_) | Body::NoDecision { .. } | Body::Promise { .. } => 57,
     }
 }
 
 /// Writes the one spelling of a datagram at the front of the buffer, and answers its length. The rest of the buffer stays
 /// as it was.
 ///
-/// Each field must be in its range. Bodies are those of kinds 1, 4, 6, 7 and 8.
+/// Each field must be in its range.
 pub fn write(team: &Team, d: &Datagram, out: &mut [u8; 4096]) -> usize
     requires team { IsSound team.now }
     requires fits { DatagramFits team.now.n d.now }
-    requires built { IsBuilt d.now.body }
     ensures bytes { out.new ≡ spelling team.now.line d.now ++ drop result out.old }
     ensures length { result ≡ length (spelling team.now.line d.now) }
 {

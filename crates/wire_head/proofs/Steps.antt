@@ -90,24 +90,36 @@ renamed Is' reads to back = record {
   cut = λ x more is some e. reads.cut x more (back x is) some e;
 }
 
+-- the same, where the place behind it is said by other words
+pub moved : {A : Type 0} {bytes : List ℕ} {place : ℕ} {Is : A → Type 0} {text : A → List ℕ} {next : A → ℕ} {read : Result A WireFault} (next' : A → ℕ) → ((x : A) → next' x ≡ next x) → Reads bytes place Is text next read → Reads bytes place Is text next' read
+moved {bytes = bytes} {text = text} next' same reads = record {
+  takes = λ x e. let a = reads.takes x e in (a.0, a.1 ∙ ap (λ (p : ℕ). text x ++ drop p bytes) (sym (same x)));
+  again = λ x after is e. let a = reads.again x after is e in (a.0, ap (λ (p : ℕ). drop p bytes) (same x) ∙ a.1);
+  cut = λ x more is some e. reads.cut x more is some e;
+}
+
 -- ---- numbers with a test
 
-pub checked_reads : (w : Width) (limit : ℕ) (wide : IsWide w limit) (allowed : ℕ → Bool) (fault : WireFault) (Is : ℕ → Type 0) → ((n : ℕ) → allowed n ≡ true → Is n) → ((n : ℕ) → Is n → (n < limit) × (allowed n ≡ true))
-    → (bytes : List ℕ) (fits : IsBytes bytes) (place next : ℕ) → next ≡ place + byte_len w → Reads bytes place Is (number_bytes w) (λ n. next) (checked_at w allowed fault bytes place)
+-- a number of this width that the test allows
+pub tested_reads : (w : Width) (limit : ℕ) (wide : IsWide w limit) (allowed : ℕ → Bool) (fault : WireFault) (bytes : List ℕ) (fits : IsBytes bytes) (place next : ℕ) → next ≡ place + byte_len w → Reads bytes place (λ n. (n < limit) × (allowed n ≡ true)) (number_bytes w) (λ n. next) (checked_at w allowed fault bytes place)
 unfolding checked_at
-checked_reads w limit wide allowed fault Is to back bytes fits place next e =
+tested_reads w limit wide allowed fault bytes fits place next e =
     let number = number_reads w limit wide bytes fits place next e in
     record {
       takes = λ n r.
           let g = bind_ok (number_at w bytes place) (λ m. where_allowed (allowed m) fault m) n r in
           let t = number.takes g.0 g.1 in
           let h = allowed_ok (allowed g.0) fault g.0 n g.2 in
-          subst (λ (m : ℕ). Is m × (drop place bytes ≡ number_bytes w m ++ drop next bytes)) h.1 (to g.0 h.0, t.1);
+          subst (λ (m : ℕ). ((m < limit) × (allowed m ≡ true)) × (drop place bytes ≡ number_bytes w m ++ drop next bytes)) h.1 ((t.0, h.0), t.1);
       again = λ n after is t.
-          let a = number.again n after (back n is).0 t in
-          (rw (a.0, (back n is).1) refl, a.1);
-      cut = λ n more is some t. ap (λ (q : Result ℕ WireFault). q >>= λ m. where_allowed (allowed m) fault m) (number.cut n more (back n is).0 some t);
+          let a = number.again n after is.0 t in
+          (rw (a.0, is.1) refl, a.1);
+      cut = λ n more is some t. ap (λ (q : Result ℕ WireFault). q >>= λ m. where_allowed (allowed m) fault m) (number.cut n more is.0 some t);
     }
+
+pub checked_reads : (w : Width) (limit : ℕ) (wide : IsWide w limit) (allowed : ℕ → Bool) (fault : WireFault) (Is : ℕ → Type 0) → ((n : ℕ) → allowed n ≡ true → Is n) → ((n : ℕ) → Is n → (n < limit) × (allowed n ≡ true))
+    → (bytes : List ℕ) (fits : IsBytes bytes) (place next : ℕ) → next ≡ place + byte_len w → Reads bytes place Is (number_bytes w) (λ n. next) (checked_at w allowed fault bytes place)
+checked_reads w limit wide allowed fault Is to back bytes fits place next e = renamed Is (tested_reads w limit wide allowed fault bytes fits place next e) (λ n is. to n is.1) back
 
 module _ (bytes : List ℕ) (fits : IsBytes bytes) (place next : ℕ) where
   pub count_reads : next ≡ place + 8 → Reads bytes place IsCount eight (λ n. next) (count_at bytes place)
@@ -171,41 +183,45 @@ pub record Fitting {X : Type 0} (present : Bool) (Is : X → Type 0) (o : Option
   pub there : is_some o ≡ present
   pub inner : IfSome o Is
 
-pub guarded_reads : {X : Type 0} (present : Bool) (k : ℕ) (inner_at : List ℕ → ℕ → Result X WireFault) (Is : X → Type 0) (text : X → List ℕ) (bytes : List ℕ) (fits : IsBytes bytes) (place next : ℕ) → next ≡ place + 8 * k
-    → Reads bytes place Is text (λ x. next) (inner_at bytes place) → Reads bytes place (Fitting present Is) (guarded k text) (λ o. next) (guarded_at present k inner_at bytes place)
+pub guarded_to : {X : Type 0} (present : Bool) (k : ℕ) (inner_at : List ℕ → ℕ → Result X WireFault) (Is : X → Type 0) (text : X → List ℕ) (bytes : List ℕ) (fits : IsBytes bytes) (place : ℕ) (next : Option X → ℕ) → next None ≡ place + 8 * k
+    → Reads bytes place Is text (λ x. next (Some x)) (inner_at bytes place) → Reads bytes place (Fitting present Is) (guarded k text) next (guarded_at present k inner_at bytes place)
 unfolding guarded_at
-guarded_reads {X} true k inner_at Is text bytes fits place next e inner = record {
+guarded_to {X} true k inner_at Is text bytes fits place next e inner = record {
   takes = λ o r.
       let g = bind_ok (inner_at bytes place) (λ x. Ok (Some x)) o r in
       let a = inner.takes g.0 g.1 in
-      subst (λ (q : Option X). Fitting true Is q × (drop place bytes ≡ guarded k text q ++ drop next bytes)) (ok_is (Some g.0) o g.2) (record { there = refl; inner = a.0 }, a.1);
+      subst (λ (q : Option X). Fitting true Is q × (drop place bytes ≡ guarded k text q ++ drop (next q) bytes)) (ok_is (Some g.0) o g.2) (record { there = refl; inner = a.0 }, a.1);
   again = present_again;
   cut = present_cut;
 }
   where
-    present_again : (o : Option X) (after : List ℕ) → Fitting true Is o → drop place bytes ≡ guarded k text o ++ after → (guarded_at true k inner_at bytes place ≡ Ok o) × (drop next bytes ≡ after)
+    present_again : (o : Option X) (after : List ℕ) → Fitting true Is o → drop place bytes ≡ guarded k text o ++ after → (guarded_at true k inner_at bytes place ≡ Ok o) × (drop (next o) bytes ≡ after)
     present_again None after is t = absurd (cc is.there)
     present_again (Some x) after is t = let a = inner.again x after is.inner t in (rw a.0 refl, a.1)
 
     present_cut : (o : Option X) (more : List ℕ) → Fitting true Is o → 0 < length more → guarded k text o ≡ drop place bytes ++ more → guarded_at true k inner_at bytes place ≡ Err Short
     present_cut None more is some t = absurd (cc is.there)
     present_cut (Some x) more is some t = rw (inner.cut x more is.inner some t) refl
-guarded_reads {X} false k inner_at Is text bytes fits place next e inner = record {
+guarded_to {X} false k inner_at Is text bytes fits place next e inner = record {
   takes = λ o r.
       let g = bind_ok (zeros_at k bytes place) (λ none. Ok None) o r in
-      let a = (zeros_reads k bytes fits place next e).takes g.0 g.1 in
-      subst (λ (q : Option X). Fitting false Is q × (drop place bytes ≡ guarded k text q ++ drop next bytes)) (ok_is None o g.2) (record { there = refl; inner = tt }, a.1);
+      let a = (zeros_reads k bytes fits place (next None) e).takes g.0 g.1 in
+      subst (λ (q : Option X). Fitting false Is q × (drop place bytes ≡ guarded k text q ++ drop (next q) bytes)) (ok_is None o g.2) (record { there = refl; inner = tt }, a.1);
   again = absent_again;
   cut = absent_cut;
 }
   where
-    absent_again : (o : Option X) (after : List ℕ) → Fitting false Is o → drop place bytes ≡ guarded k text o ++ after → (guarded_at false k inner_at bytes place ≡ Ok o) × (drop next bytes ≡ after)
+    absent_again : (o : Option X) (after : List ℕ) → Fitting false Is o → drop place bytes ≡ guarded k text o ++ after → (guarded_at false k inner_at bytes place ≡ Ok o) × (drop (next o) bytes ≡ after)
     absent_again (Some x) after is t = absurd (cc is.there)
-    absent_again None after is t = let a = (zeros_reads k bytes fits place next e).again tt after tt t in (rw a.0 refl, a.1)
+    absent_again None after is t = let a = (zeros_reads k bytes fits place (next None) e).again tt after tt t in (rw a.0 refl, a.1)
 
     absent_cut : (o : Option X) (more : List ℕ) → Fitting false Is o → 0 < length more → guarded k text o ≡ drop place bytes ++ more → guarded_at false k inner_at bytes place ≡ Err Short
     absent_cut (Some x) more is some t = absurd (cc is.there)
-    absent_cut None more is some t = rw ((zeros_reads k bytes fits place next e).cut tt more tt some t) refl
+    absent_cut None more is some t = rw ((zeros_reads k bytes fits place (next None) e).cut tt more tt some t) refl
+
+pub guarded_reads : {X : Type 0} (present : Bool) (k : ℕ) (inner_at : List ℕ → ℕ → Result X WireFault) (Is : X → Type 0) (text : X → List ℕ) (bytes : List ℕ) (fits : IsBytes bytes) (place next : ℕ) → next ≡ place + 8 * k
+    → Reads bytes place Is text (λ x. next) (inner_at bytes place) → Reads bytes place (Fitting present Is) (guarded k text) (λ o. next) (guarded_at present k inner_at bytes place)
+guarded_reads present k inner_at Is text bytes fits place next e inner = guarded_to present k inner_at Is text bytes fits place (λ o. next) e inner
 
 -- ---- the same with another text, another value, or a choice
 

@@ -23,10 +23,16 @@ fn the_first_cause_of_a_line_is_told(rt: HostRuntime) -> Result<(), Fail> {
         ("6 0 6 ref 7 9", "line 4: reference"),
         ("6 0 6 ref 4 5", "line 4: reference"),
         ("6 0 7 ref 7 7", "line 4: reference"),
-        ("4 0 5 tick", "line 4: grammar"),
+        ("6 1 6 tick", "line 4: not running"),
+        ("6 1 6 recv 1", "line 4: not running"),
+        ("6 0 6 recv 9", "line 4: no datagram"),
+        ("6 0 6 recv 0", "line 4: no datagram"),
+        ("4 0 6 recv 9", "line 4: time"),
+        ("6 0 8 recv 9", "line 4: drift"),
+        ("4 0 5 crash", "line 4: grammar"),
     ];
     for (line, expected) in lines {
-        let text = format!(in alloc; "{TEAM}\n5 0 5 first\n6 0 6 look\n{line}\n6 0 6 tick\n")?;
+        let text = format!(in alloc; "{TEAM}\n5 0 5 first\n6 0 6 look\n{line}\n6 0 6 crash\n")?;
         let (status, written) = replayed(alloc, text.as_str())?;
         assert_eq!(rt; status.as_str(), expected, "at {line}");
         assert_eq!(rt;
@@ -41,7 +47,7 @@ fn the_first_cause_of_a_line_is_told(rt: HostRuntime) -> Result<(), Fail> {
 fn the_first_line_with_a_cause_is_told(rt: HostRuntime) -> Result<(), Fail> {
     let alloc = rt.alloc();
     let schedules = [
-        ("5 0 5 look\n5 0 5 tick\n", "line 2: not running", ""),
+        ("5 0 5 look\n5 0 5 crash\n", "line 2: not running", ""),
         ("5 0 5 ref 6 7\n", "line 2: not running", ""),
         (
             "5 0 5 first\n6 0 4 look\n",
@@ -101,5 +107,44 @@ fn a_clock_keeps_the_drift_of_its_team(rt: HostRuntime) -> Result<(), Fail> {
         assert_eq!(rt; status.as_str(), expected, "at {h}");
         assert_eq!(rt; written.as_slice(), rows.as_bytes());
     }
+    Ok(())
+}
+
+#[test]
+fn a_datagram_is_received_by_its_receiver_alone(rt: HostRuntime) -> Result<(), Fail> {
+    let alloc = rt.alloc();
+    let receipts = [
+        ("11 1 11 recv 1", ""),
+        ("11 2 11 recv 2", ""),
+        ("11 2 11 recv 1", "line 6: no datagram"),
+        ("11 0 11 recv 1", "line 6: no datagram"),
+        ("11 1 11 recv 0", "line 6: no datagram"),
+        ("11 1 11 recv 3", "line 6: no datagram"),
+    ];
+    for (line, expected) in receipts {
+        let text = format!(in alloc;
+            "{TEAM}\n5 0 5 first\n5 1 5 first\n5 2 5 first\n10 0 10 tick\n{line}\n"
+        )?;
+        let (status, _) = replayed(alloc, text.as_str())?;
+        assert_eq!(rt; status.as_str(), expected, "at {line}");
+    }
+    Ok(())
+}
+
+#[test]
+fn a_reference_reaches_another_process(rt: HostRuntime) -> Result<(), Fail> {
+    let alloc = rt.alloc();
+    let steps =
+        "5 0 5 first\n5 1 5 first\n10 0 10 ref 10 10\n10 0 10 tick\n510 1 510 recv 1\n1010 0 1010 recv 3\n20010 0 20010 tick\n20510 1 20510 recv 5\n";
+    let rows = "1 0 5 - 0 0.0 0 0 start\n2 1 5 - 0 0.0 0 0 start\n3 0 5 10 0 0.0 0 0 done\n\
+        4 0 5 10 0 0.0 0 0 done\n+ send 1 to 1 sync\n+ send 2 to 2 sync\n\
+        5 1 5 - 0 0.0 0 0 done\n+ send 3 to 0 sync\n+ send 4 to 2 sync\n\
+        6 0 5 1010 0 0.0 0 0 done\n\
+        7 0 5 20010 0 0.0 0 0 done\n+ send 5 to 1 sync\n+ send 6 to 2 sync\n\
+        8 1 5 20511 0 0.0 0 0 done\n+ send 7 to 0 sync\n+ send 8 to 2 sync\n";
+    let text = schedule(alloc, steps)?;
+    let (status, written) = replayed(alloc, text.as_str())?;
+    assert_eq!(rt; status.as_str(), "");
+    assert_eq!(rt; written.as_slice(), rows.as_bytes());
     Ok(())
 }

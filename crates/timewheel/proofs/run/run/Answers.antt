@@ -1,29 +1,14 @@
-use Rattle.timewheel.specs.Replay.{lines_of}
-use Rattle.timewheel.proofs.Tops.{settled, replayed, nothing_taken, completed}
-use Rattle.timewheel.proofs.Verdicts.{ok_exactly, bad_team_exactly, bad_schedule_exactly, too_long_exactly}
+-- A command answers as its replay does.
 use Rattle.timewheel.proofs.run.run.Goals as goal
 
-pub returns-clause-ok : goal.returns-clause-ok
-returns-clause-ok g c = λ ok all before left taken.
-    replayed all _ before _ c.replay.result (c.replay.ensures.answered (settled c.replay.result _ ok (λ x. x)) all before left taken) ok
-
 pub returns-clause-good : goal.returns-clause-good
-returns-clause-good g c = λ settles all before left taken. let a = c.replay.ensures.answered settles.1 all before left taken in ok_exactly (lines_of all) c.replay.result a.rows a.tells
+returns-clause-good g c = λ settles all before left taken. c.replay.ensures.good settles.1 all before left taken
 
 pub returns-clause-bad_team : goal.returns-clause-bad_team
-returns-clause-bad_team g c = λ settles all before left taken fault. let a = c.replay.ensures.answered settles.1 all before left taken in bad_team_exactly (lines_of all) c.replay.result a.rows a.tells fault
+returns-clause-bad_team g c = λ settles all before left taken fault. c.replay.ensures.bad_team settles.1 all before left taken fault
 
 pub returns-clause-bad_schedule : goal.returns-clause-bad_schedule
-returns-clause-bad_schedule g c = λ settles all before left taken. let a = c.replay.ensures.answered settles.1 all before left taken in bad_schedule_exactly (lines_of all) c.replay.result a.rows a.tells
+returns-clause-bad_schedule g c = λ settles all before left taken. c.replay.ensures.bad_schedule settles.1 all before left taken
 
 pub returns-clause-too_long : goal.returns-clause-too_long
-returns-clause-too_long g c = λ settles all before left taken. let a = c.replay.ensures.answered settles.1 all before left taken in too_long_exactly (lines_of all) c.replay.result a.rows a.tells
-
-pub returns-clause-no_rows : goal.returns-clause-no_rows
-returns-clause-no_rows g c = λ fault is all before left taken.
-    nothing_taken all _ before _ c.replay.result (c.replay.ensures.answered (settled c.replay.result _ is (λ x. x)) all before left taken) fault is
-
-pub returns-clause-complete : goal.returns-clause-complete
-returns-clause-complete g c = λ words all before left taken good read write.
-    completed c.replay.result (λ is. read (c.replay.ensures.read_fault is)) (λ is. write (c.replay.ensures.write_fault is))
-    (λ gave. let a = c.replay.ensures.answered gave all before left taken in (ok_exactly (lines_of all) c.replay.result a.rows a.tells).1 good)
+returns-clause-too_long g c = λ settles all before left taken. c.replay.ensures.too_long settles.1 all before left taken

@@ -1,0 +1,4 @@
+pub mod Echoes
+pub mod Refusals
+pub mod Signs
+pub mod Steps

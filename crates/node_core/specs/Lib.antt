@@ -1,0 +1,5 @@
+pub mod Echoes
+pub mod Reasons
+pub mod Sends
+pub mod StandsFor
+pub mod Events

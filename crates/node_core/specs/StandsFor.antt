@@ -1,0 +1,30 @@
+-- When a process of the code stands for a process of the definitions, which keeps all that it was ever given.
+use Rattle.std.specs.Prelude.{◌≡◌, ℕ, ◌<◌, get_or, Option, None}
+use Rattle.tw_num.specs.Clock.{fresh}
+use Rattle.tw_types.specs.declared.team.Team.{Team}
+use Rattle.tw_types.specs.Process.{Identity, Timing, Beat, Process}
+use Rattle.clock_sync.specs.StandsFor as clock
+use Rattle.node_core.specs.declared.timing.Timing as code_timing
+use Rattle.node_core.specs.declared.beat.Beat as code_beat
+use Rattle.node_core.specs.declared.process.Identity as code_identity
+use Rattle.node_core.specs.declared.process.Core.{Core}
+
+-- the clock stands for the one that keeps all, and each process was heard alike
+pub record TimingStandsFor (team : Team) (c : code_timing.Timing) (t : Timing) : Type 0 where
+  pub clock : clock.StandsFor team.ppm team.eps c.clock t.clock
+  pub heard : (q : ℕ) → q < 15 → get_or c.heard q None ≡ t.heard q
+
+abbrev pub nothing_heard : Timing
+nothing_heard = record { clock = fresh; heard = λ q. None }
+
+abbrev pub identity_seen : code_identity.Identity → Identity
+identity_seen i = record { who = i.who; mode = i.mode; incarnation = i.incarnation; began = i.began }
+
+abbrev pub beat_seen : code_beat.Beat → Beat
+beat_seen b = record { last = b.last }
+
+-- each concern stands for its own
+pub record StandsFor (c : Core) (p : Process) : Type 0 where
+  pub identity : p.identity ≡ identity_seen c.identity
+  pub timing : TimingStandsFor c.team c.timing p.timing
+  pub beat : p.beat ≡ beat_seen c.beat

@@ -1,0 +1,17 @@
+//! One process of a team: what an event makes of it, what it answers and what it sends.
+//!
+//! Rules held here: an event is a composition of parts, each with a function of its own that meets the part's definition.
+//! A packet is read and taken or dropped; what it tells of time is noted and given to the clock; the clock is read, whether
+//! or not the event is dropped; and then the duties run. No part takes memory.
+#![tactic(auto)]
+
+mod beat;
+mod hearing;
+mod packet;
+mod process;
+mod timing;
+
+pub use process::{Core, Event, Identity};
+
+#[cfg(test)]
+mod tests;

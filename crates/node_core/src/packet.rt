@@ -1,0 +1,41 @@
+//! Which packets a process takes.
+
+ghost use Rattle.std.specs.Prelude.{◌≡◌, ◌<◌, IfOk};
+ghost use Rattle.tw_machine.specs.Packet.{is_taken, is_stranger, admitted};
+ghost use Rattle.tw_types.specs.Ranges.{DatagramFits};
+ghost use Rattle.tw_types.specs.Team.{IsSound};
+ghost use Rattle.wire_body.specs.Reading.{datagram_at};
+
+use tw_types::{Body, Datagram, Head, Reason, Team, WireFault};
+use wire_body::read;
+
+/// Whether processes take such a datagram today.
+fn is_taken(body: &Body) -> bool
+    ensures { result ≡ is_taken body.now }
+{
+    matches!(body, Body::Sync { .. })
+}
+
+/// Whether a datagram is of no other process of the team, or is for another one than `me`.
+fn is_stranger(n: u8, me: u8, head: &Head) -> bool
+    ensures { result ≡ is_stranger n me head.now }
+{
+    n <= head.from || head.from == me || head.to != me
+}
+
+/// The datagram that a packet's bytes spell, where the process `me` takes it, or why it doesn't.
+pub fn admitted(team: &Team, me: u8, bytes: &[u8]) -> Result<Datagram, Reason>
+    requires { IsSound team.now }
+    ensures exact { result ≡ admitted team.now.n me (datagram_at team.now bytes.now) }
+    ensures fits { IfOk result (DatagramFits team.now.n) }
+    ensures from { IfOk result (λ d. d.head.from < team.now.n) }
+{
+    let datagram = read(team, bytes).map_err(Reason::Wire)?;
+    if !is_taken(&datagram.body) {
+        return Err(Reason::Wire(WireFault::Kind));
+    }
+    if is_stranger(team.n, me, &datagram.head) {
+        return Err(Reason::Stranger);
+    }
+    Ok(datagram)
+}

@@ -1,0 +1,160 @@
+//! A process, and its steps.
+
+ghost use Rattle.std.specs.Prelude.{◌≡◌, ◌<◌, ◌^◌};
+ghost use Rattle.std.proofs.Props.{props};
+ghost use Rattle.tw_types.specs.Team.{IsSound};
+ghost use Rattle.tw_machine.specs.Step.{answer_by};
+
+use crate::beat::{Beat, give_signs};
+use crate::hearing::heard;
+use crate::timing::Timing;
+use std::alloc::Global;
+use tw_num::WantOfMemory;
+use tw_types::{Answer, Mode, Outputs, Reason, Team, View};
+
+/// Who a process is.
+#[derive(Clone, Copy, Debug, PartialEq, Eq)]
+pub struct Identity {
+    /// Its number in the team.
+    pub who: u8,
+    pub mode: Mode,
+    /// The reading of its hardware clock at the beginning of this life, in ticks.
+    pub incarnation: u64,
+    /// The reading of its hardware clock at its start, in ticks.
+    pub began: u64,
+}
+
+/// What happens to a process.
+#[derive(Clone, Copy, Debug)]
+pub enum Event<'a> {
+    /// Time passed.
+    Tick,
+    /// Bytes came from another process, or from a stranger.
+    Packet(&'a [u8]),
+    /// Team time is known to lie from `lo` to `hi`, in microseconds.
+    Reference { lo: u64, hi: u64 },
+}
+
+/// A process of a team. It takes no memory once it is made.
+#[derive(Debug, Drop)]
+pub struct Core {
+    team: Team,
+    identity: Identity,
+    timing: Timing,
+    beat: Beat,
+    ghost sound: { IsSound team } by { Prim.hlevel props },
+    ghost who: { identity.who < team.n },
+    ghost incarnation: { identity.incarnation < 2 ^ 60 },
+}
+
+impl Core {
+    ghost use Rattle.std.specs.Prelude.{◌≡◌, ◌<◌, ◌≤◌, ◌^◌, IfOk};
+    ghost use Rattle.std.specs.List.{AllByRecursion};
+    ghost use Rattle.tw_types.specs.declared.team.Team.{Team as TeamSeen};
+    ghost use Rattle.tw_types.specs.Process.{Process, started};
+    ghost use Rattle.tw_num.specs.Clock.{IsNotBefore};
+    ghost use Rattle.tw_machine.specs.Event as machine;
+    ghost use Rattle.tw_machine.specs.Step.{step, looked, view_of};
+    ghost use Rattle.node_core.specs.Events.{event_seen, IsGivable};
+    ghost use Rattle.node_core.specs.Sends.{IsSendable};
+    ghost use Rattle.node_core.specs.StandsFor.{StandsFor};
+
+    /// The process `who` of a sound team, which starts at its reading `h`.
+    pub fn new(alloc: Global, team: Team, who: u8, mode: Mode, h: u64) -> Result<Core, WantOfMemory>
+        requires sound { IsSound team }
+        requires who { who < team.n }
+        requires reading { h < 2 ^ 60 }
+        requires mode { mode ≡ Mode.First }
+        ensures stands { IfOk result (λ core. StandsFor core (started who mode h)) }
+        ensures team { IfOk result (λ core. core.team ≡ team) }
+    {
+        let _ = alloc;
+        Ok(Core {
+            team,
+            identity: Identity {
+                who,
+                mode,
+                incarnation: h,
+                began: h,
+            },
+            timing: Timing::new(&team),
+            beat: Beat { last: None },
+        })
+    }
+
+    /// Takes an event at the reading `h`, not below the last one, and puts what it gives into `out`, which is cleared first.
+    pub fn step(&mut self, event: Event<'_>, h: u64, out: &mut Outputs) -> Answer
+        requires reading { h < 2 ^ 60 }
+        requires givable { IsGivable event }
+        ensures stands { (p : Process) → StandsFor self.old p → IsNotBefore h p.timing.clock →
+            StandsFor self.new (step self.old.team h (event_seen self.old.team event.entry) p).process }
+        ensures answer { (p : Process) → StandsFor self.old p → IsNotBefore h p.timing.clock →
+            result ≡ (step self.old.team h (event_seen self.old.team event.entry) p).answer }
+        ensures out { (p : Process) → StandsFor self.old p → IsNotBefore h p.timing.clock →
+            out.new ≡ (step self.old.team h (event_seen self.old.team event.entry) p).out }
+        ensures fits { AllByRecursion (IsSendable self.old.team.n) out.new.sends }
+        // so a look at the same reading changes nothing
+        ensures settled { (team : TeamSeen) (e : machine.Event) (p : Process) → looked team h (step team h e p).process ≡ (step team h e p).process }
+        ensures team { self.new.team ≡ self.old.team }
+    {
+        out.clear();
+        let dropped = heard(&self.team, self.identity.who, &mut self.timing, event, h);
+        let _ = self.timing.read(h);
+        if event.has_duties() {
+            give_signs(
+                &self.team,
+                &self.identity,
+                &self.timing,
+                &mut self.beat,
+                h,
+                &mut out.sends,
+            );
+        }
+        answer(dropped)
+    }
+
+    /// What the process says of itself at the reading `h`, not below the last one. A look at the reading of the call before
+    /// changes nothing.
+    pub fn look(&mut self, h: u64) -> View
+        requires { h < 2 ^ 60 }
+        ensures stands { (p : Process) → StandsFor self.old p → IsNotBefore h p.timing.clock → StandsFor self.new (looked self.old.team h p) }
+        ensures view { (p : Process) → StandsFor self.old p → IsNotBefore h p.timing.clock → result ≡ view_of self.old.team h p }
+        // nor does a second look
+        ensures settled { (team : TeamSeen) (p : Process) → looked team h (looked team h p) ≡ looked team h p }
+        ensures team { self.new.team ≡ self.old.team }
+    {
+        View {
+            incarnation: self.identity.incarnation,
+            reading: self.timing.read(h),
+            up: false,
+            group: 0,
+            turn: 0,
+            length: 0,
+            passed: 0,
+        }
+    }
+}
+
+/// The answer to an event that is dropped for this reason, if it is dropped.
+fn answer(dropped: Option<Reason>) -> Answer
+    ensures { result ≡ answer_by dropped }
+{
+    match dropped {
+        None => Answer::Done,
+        Some(reason) => Answer::Dropped(reason),
+    }
+}
+
+impl Event<'_> {
+    ghost use Rattle.std.specs.Prelude.{◌≡◌};
+    ghost use Rattle.tw_types.specs.declared.team.Team.{Team};
+    ghost use Rattle.tw_machine.specs.Step.{has_duties};
+    ghost use Rattle.node_core.specs.Events.{event_seen};
+
+    /// Whether the duties run after the event.
+    fn has_duties(&self) -> bool
+        ensures { (team : Team) → result ≡ has_duties (event_seen team self.now) }
+    {
+        !matches!(self, Event::Reference { .. })
+    }
+}

@@ -1,0 +1,315 @@
+ghost use Rattle.std.specs.Prelude.{◌<◌, ◌≤◌, IfSome};
+ghost use Rattle.std.specs.List.{AllByRecursion};
+ghost use Rattle.tw_types.specs.Ranges.{IntervalFits, EchoFits, DatagramFits};
+
+use crate::{Core, Event};
+use std::alloc::Global;
+use std::process::Abort;
+use std::test::Fail;
+use tw_num::{Interval, WantOfMemory};
+use tw_types::{Answer, Body, Datagram, Echo, Head, Mode, Outputs, Reason, Team, View, WireFault};
+use wire_body::write;
+
+/// A sound team of three processes with exact clocks.
+const TEAM: Team = Team {
+    n: 3,
+    line: 7,
+    ppm: 0,
+    eps: 1000,
+    delta: 10_000,
+    pace: 20_000,
+    decide: 10_000,
+    ring: 50_000,
+    slot: 100_000,
+    lease: 400_000,
+    quarantine: 1_104_003,
+    theta: 30_000,
+};
+
+/// A process of the team, started at 5.
+fn process(alloc: Global, who: u8) -> Result<Core, WantOfMemory>
+    requires { who < 3 }
+{
+    Core::new(alloc, TEAM, who, Mode::First, 5)
+}
+
+/// A sign of life.
+fn sync(from: u8, to: u8, sent: u32, interval: Option<Interval>, echo: Option<Echo>) -> Datagram
+    requires interval { IfSome interval IntervalFits }
+    requires echo { IfSome echo EchoFits }
+    ensures { DatagramFits 3 result }
+{
+    let sent = u64::from(sent);
+    Datagram {
+        head: Head {
+            from,
+            to,
+            incarnation: 5,
+            sent,
+            interval,
+            echo,
+        },
+        body: Body::Sync { ready: None },
+    }
+}
+
+/// An interval from `lo` on.
+fn interval(lo: u32, width: u32) -> Option<Interval>
+    ensures { IfSome result IntervalFits }
+{
+    let lo = u64::from(lo);
+    let hi = lo + u64::from(width);
+    Some(Interval { lo, hi })
+}
+
+fn echo(a: u32, b: u32) -> Option<Echo>
+    ensures { IfSome result EchoFits }
+{
+    let a = u64::from(a);
+    let b = u64::from(b);
+    Some(Echo { a, b })
+}
+
+/// The process takes the datagram's bytes.
+fn receive(core: &mut Core, h: u32, datagram: &Datagram, out: &mut Outputs) -> Answer
+    requires { DatagramFits 3 datagram.now }
+{
+    let mut bytes = [0; 4096];
+    let length = write(&TEAM, datagram, &mut bytes);
+    core.step(Event::Packet(&bytes[..length]), h.into(), out)
+}
+
+fn reading(core: &mut Core, h: u32) -> Option<u64> {
+    core.look(h.into()).reading
+}
+
+/// A reference at process 0 reaches process 1 by their signs of life.
+#[test]
+fn a_reference_reaches_another_process(rt: HostRuntime) -> Result<(), Fail> {
+    let alloc = rt.alloc();
+    let mut out = Outputs::new(alloc)?;
+    let mut zero = process(alloc, 0)?;
+    let mut one = process(alloc, 1)?;
+    let view = View {
+        incarnation: 5,
+        reading: None,
+        up: false,
+        group: 0,
+        turn: 0,
+        length: 0,
+        passed: 0,
+    };
+    assert_eq!(rt; zero.look(5), view);
+
+    assert_eq!(rt;
+        zero.step(Event::Reference { lo: 10, hi: 10 }, 10, &mut out),
+        Answer::Done
+    );
+    assert_eq!(rt; out.sends.as_slice().len(), 0);
+    assert_eq!(rt; reading(&mut zero, 10), Some(10));
+
+    assert_eq!(rt; zero.step(Event::Tick, 10, &mut out), Answer::Done);
+    let first = sync(0, 1, 10, interval(9, 2), None);
+    let second = sync(0, 2, 10, interval(9, 2), None);
+    assert_eq!(rt; out.sends.as_slice(), [(1, first), (2, second)].as_slice());
+
+    let first = sync(0, 1, 10, interval(9, 2), None);
+    assert_eq!(rt; receive(&mut one, 510, &first, &mut out), Answer::Done);
+    let back = sync(1, 0, 510, None, echo(10, 510));
+    let other = sync(1, 2, 510, None, None);
+    assert_eq!(rt; out.sends.as_slice(), [(0, back), (2, other)].as_slice());
+    assert_eq!(rt; reading(&mut one, 510), None);
+
+    let back = sync(1, 0, 510, None, echo(10, 510));
+    assert_eq!(rt; receive(&mut zero, 1010, &back, &mut out), Answer::Done);
+    assert_eq!(rt; out.sends.as_slice().len(), 0);
+
+    assert_eq!(rt; zero.step(Event::Tick, 20_009, &mut out), Answer::Done);
+    assert_eq!(rt; out.sends.as_slice().len(), 0);
+    assert_eq!(rt; zero.step(Event::Tick, 20_010, &mut out), Answer::Done);
+    let told = sync(0, 1, 20_010, interval(20_009, 2), echo(510, 1010));
+    let other = sync(0, 2, 20_010, interval(20_009, 2), None);
+    assert_eq!(rt; out.sends.as_slice(), [(1, told), (2, other)].as_slice());
+
+    let told = sync(0, 1, 20_010, interval(20_009, 2), echo(510, 1010));
+    assert_eq!(rt; receive(&mut one, 20_510, &told, &mut out), Answer::Done);
+    assert_eq!(rt; reading(&mut one, 20_510), Some(20_511));
+    let back = sync(1, 0, 20_510, interval(20_008, 1006), echo(20_010, 20_510));
+    let other = sync(1, 2, 20_510, interval(20_008, 1006), None);
+    assert_eq!(rt; out.sends.as_slice(), [(0, back), (2, other)].as_slice());
+    Ok(())
+}
+
+/// The senders and receivers that a process of the team has nothing to do with.
+#[test]
+fn strangers_are_dropped(rt: HostRuntime) -> Result<(), Fail> {
+    let alloc = rt.alloc();
+    let mut out = Outputs::new(alloc)?;
+    for (from, to) in [(1, 1), (0, 0), (3, 1), (255, 1), (0, 2), (2, 255), (1, 0)] {
+        let mut one = process(alloc, 1)?;
+        let packet = sync(from, to, 10, interval(9, 2), echo(6, 7));
+        assert_eq!(rt;
+            receive(&mut one, 510, &packet, &mut out),
+            Answer::Dropped(Reason::Stranger)
+        );
+        // its stamp isn't noted, its interval isn't given, and the duties run all the same
+        let back = sync(1, 0, 510, None, None);
+        let other = sync(1, 2, 510, None, None);
+        assert_eq!(rt; out.sends.as_slice(), [(0, back), (2, other)].as_slice());
+        assert_eq!(rt; reading(&mut one, 510), None);
+    }
+    Ok(())
+}
+
+/// The datagrams of the schedule in which a reference reaches another process.
+fn sent_on_the_way() -> [Datagram; 8]
+    ensures { AllByRecursion (DatagramFits 3) result }
+{
+    [
+        sync(0, 1, 10, interval(9, 2), None),
+        sync(0, 2, 10, interval(9, 2), None),
+        sync(1, 0, 510, None, echo(10, 510)),
+        sync(1, 2, 510, None, None),
+        sync(0, 1, 20_010, interval(20_009, 2), echo(510, 1010)),
+        sync(0, 2, 20_010, interval(20_009, 2), None),
+        sync(1, 0, 20_510, interval(20_008, 1006), echo(20_010, 20_510)),
+        sync(1, 2, 20_510, interval(20_008, 1006), None),
+    ]
+}
+
+/// Each front of the bytes of a datagram is dropped as too short, and nothing of it is kept.
+fn cut_anywhere(rt: &impl Abort, alloc: Global, packet: &Datagram) -> Result<(), Fail>
+    requires { DatagramFits 3 packet.now }
+{
+    let mut out = Outputs::new(alloc)?;
+    let mut bytes = [0; 4096];
+    assert_eq!(rt; write(&TEAM, packet, &mut bytes), 82);
+    for cut in 0..82 {
+        let mut one = process(alloc, 1)?;
+        let answer = one.step(Event::Packet(&bytes[..cut]), 20_510, &mut out);
+        assert_eq!(rt; answer, Answer::Dropped(Reason::Wire(WireFault::Short)));
+        assert_eq!(rt; reading(&mut one, 20_510), None);
+    }
+    Ok(())
+}
+
+#[test]
+fn no_front_of_a_packet_is_taken(rt: HostRuntime) -> Result<(), Fail> {
+    let alloc = rt.alloc();
+    for packet in &sent_on_the_way() {
+        cut_anywhere(&rt, alloc, packet)?;
+    }
+    Ok(())
+}
+
+/// The first bytes of the room that datagrams are written to.
+fn front<const N: usize>(bytes: &[u8; 4096]) -> &[u8]
+    requires { N ≤ 4096 }
+{
+    &bytes[..N]
+}
+
+/// What process 1 answers where this byte of the head is 255 in the fifth of those datagrams.
+fn answer_at(place: u8) -> Answer {
+    let fault = match place {
+        0 => WireFault::Version,
+        1 => WireFault::Kind,
+        2..=5 => WireFault::Line,
+        6 | 7 => return Answer::Dropped(Reason::Stranger),
+        8 | 16 | 24 | 25 | 33 | 41 | 49 => WireFault::Field(u16::from(place)),
+        // the interval would end before it begins
+        26..=32 => WireFault::Field(33),
+        _ => return Answer::Done,
+    };
+    Answer::Dropped(Reason::Wire(fault))
+}
+
+#[test]
+fn each_byte_of_the_head_is_looked_at(rt: HostRuntime) -> Result<(), Fail> {
+    let alloc = rt.alloc();
+    let mut out = Outputs::new(alloc)?;
+    let mut bytes = [0; 4096];
+    let packet = sync(0, 1, 20_010, interval(20_009, 2), echo(510, 1010));
+    assert_eq!(rt; write(&TEAM, &packet, &mut bytes), 82);
+    for place in 0..57 {
+        let mut one = process(alloc, 1)?;
+        let mut altered = bytes;
+        altered[usize::from(place)] = 255;
+        let answer = one.step(Event::Packet(front::<82>(&altered)), 20_510, &mut out);
+        assert_eq!(rt; answer, answer_at(place), "at {place}");
+        if answer != Answer::Done {
+            assert_eq!(rt; reading(&mut one, 20_510), None);
+        }
+    }
+    let mut one = process(alloc, 1)?;
+    assert_eq!(rt;
+        one.step(Event::Packet(front::<83>(&bytes)), 20_510, &mut out),
+        Answer::Dropped(Reason::Wire(WireFault::Long))
+    );
+    assert_eq!(rt; reading(&mut one, 20_510), None);
+    assert_eq!(rt;
+        one.step(Event::Packet(front::<82>(&bytes)), 20_510, &mut out),
+        Answer::Done
+    );
+    assert_eq!(rt; reading(&mut one, 20_510), Some(20_511));
+    Ok(())
+}
+
+/// Of two stamps the greater one is told, and of equal ones the one that was heard later.
+#[test]
+fn echoes(rt: HostRuntime) -> Result<(), Fail> {
+    let alloc = rt.alloc();
+    let mut out = Outputs::new(alloc)?;
+    let cases = [
+        (10, 10, 10, 30_000),
+        (10, 11, 11, 30_000),
+        (11, 10, 11, 510),
+    ];
+    for (first, second, stamp, at) in cases {
+        let mut one = process(alloc, 1)?;
+        assert_eq!(rt;
+            receive(&mut one, 510, &sync(0, 1, first, None, None), &mut out),
+            Answer::Done
+        );
+        assert_eq!(rt;
+            receive(&mut one, 30_000, &sync(0, 1, second, None, None), &mut out),
+            Answer::Done
+        );
+        let back = sync(1, 0, 30_000, None, echo(stamp, at));
+        let other = sync(1, 2, 30_000, None, None);
+        assert_eq!(rt; out.sends.as_slice(), [(0, back), (2, other)].as_slice());
+    }
+    Ok(())
+}
+
+/// An interval that shares nothing with the process's own is dropped, its stamp is noted, and the clock stays unread.
+#[test]
+fn a_contradiction(rt: HostRuntime) -> Result<(), Fail> {
+    let alloc = rt.alloc();
+    let mut out = Outputs::new(alloc)?;
+    let mut one = process(alloc, 1)?;
+    assert_eq!(rt;
+        one.step(Event::Reference { lo: 100, hi: 110 }, 10, &mut out),
+        Answer::Done
+    );
+    assert_eq!(rt; reading(&mut one, 10), Some(105));
+    let far = sync(0, 1, 10, interval(5000, 1), echo(10, 10));
+    assert_eq!(rt;
+        receive(&mut one, 10, &far, &mut out),
+        Answer::Dropped(Reason::Disjoint)
+    );
+    let back = sync(1, 0, 10, None, echo(10, 10));
+    let other = sync(1, 2, 10, None, None);
+    assert_eq!(rt; out.sends.as_slice(), [(0, back), (2, other)].as_slice());
+    assert_eq!(rt; reading(&mut one, 10), None);
+    assert_eq!(rt;
+        one.step(Event::Reference { lo: 100, hi: 110 }, 11, &mut out),
+        Answer::Dropped(Reason::Disjoint)
+    );
+    // nothing is given of a packet that tells no interval
+    assert_eq!(rt;
+        receive(&mut one, 12, &sync(0, 1, 11, None, echo(10, 10)), &mut out),
+        Answer::Done
+    );
+    Ok(())
+}

@@ -1,0 +1,63 @@
+-- What a replay answers of a text.
+use Rattle.std.specs.Prelude.{ℕ, ◌≡◌, List, [], ◌++◌, take, Option, Some}
+use Rattle.schedule_text.specs.declared.status.Status.{Status}
+use Rattle.schedule_text.specs.declared.status.Status.TheVariants as status
+use Rattle.tw_types.specs.declared.team.Team.{Team}
+use Rattle.tw_types.specs.declared.step.Step.{Step}
+use Rattle.replayer.specs.Replay.{lines_of, Begins, Verdict, Whole, NoTeam, Faulty, BadLine, Endless, IsVerdict}
+use Rattle.tw_machine.specs.Rows.{rows_of}
+use Rattle.tw_machine.specs.RowText.{text_of}
+use Rattle.tw_machine.specs.SafeRows.{SafeRows}
+use Rattle.tw_machine.specs.ClockLaw.{ReadsWell}
+use Rattle.replayer.specs.Cuts.{Tells}
+
+-- these three tell nothing of the text
+abbrev pub GaveUp : Status → Type 0
+GaveUp status.ReadFault = Unit {0}
+GaveUp status.WriteFault = Unit {0}
+GaveUp status.WantOfMemory = Unit {0}
+GaveUp _ = ⊥
+
+-- these four tell what a text is
+abbrev pub TellsOfText : Status → Type 0
+TellsOfText status.Ok = Unit {0}
+TellsOfText (status.BadTeam fault) = Unit {0}
+TellsOfText (status.BadSchedule line cause) = Unit {0}
+TellsOfText status.TooLong = Unit {0}
+TellsOfText _ = ⊥
+
+-- the rows of the steps before the line that ends a text are safe, and each reading in them is near the team time of its step
+abbrev pub RowsAreWell : Verdict → Type 0
+RowsAreWell (Whole team past) = SafeRows team (rows_of team past) × ReadsWell team past
+RowsAreWell NoTeam = Unit {0}
+RowsAreWell (Faulty fault) = Unit {0}
+RowsAreWell (BadLine team past cause) = SafeRows team (rows_of team past) × ReadsWell team past
+RowsAreWell (Endless team past) = SafeRows team (rows_of team past) × ReadsWell team past
+
+-- The status tells what the text is, and the rows of the steps before the line that ends it were written; at Ok nothing of the text is left.
+pub record IsAnswered (all : List ℕ) (left : Option (List ℕ)) (before : List ℕ) (taken : Option (List ℕ)) (result : Status) : Type 0 where
+  pub rows : List ℕ
+  pub tells : Tells (lines_of all) result rows
+  pub written : taken ≡ Some (before ++ rows)
+  pub ended : result ≡ status.Ok → left ≡ Some []
+  pub well : (v : Verdict) → IsVerdict (lines_of all) v → RowsAreWell v
+
+-- A front of the rows of the steps before the line that ends the text was written.
+pub record IsCutOff (all : List ℕ) (before : List ℕ) (taken : Option (List ℕ)) : Type 0 where
+  pub rows : List ℕ
+  pub status : Status
+  pub tells : Tells (lines_of all) status rows
+  pub count : ℕ
+  pub written : taken ≡ Some (before ++ take count rows)
+  pub well : (v : Verdict) → IsVerdict (lines_of all) v → RowsAreWell v
+
+-- The bytes are the lines of a sound team and of an admissible schedule; all of them were read, and the text of the schedule's rows
+-- was written. The rows are safe, and each reading in them is near the team time of its step.
+pub record IsReplayed (all : List ℕ) (left : Option (List ℕ)) (before : List ℕ) (taken : Option (List ℕ)) : Type 0 where
+  pub team : Team
+  pub past : List Step
+  pub schedule : Begins (lines_of all) team past []
+  pub ended : left ≡ Some []
+  pub written : taken ≡ Some (before ++ text_of (rows_of team past))
+  pub safe : SafeRows team (rows_of team past)
+  pub near : ReadsWell team past

@@ -1,0 +1,9 @@
+pub mod Chains
+pub mod Digits
+pub mod Fitting
+pub mod LineParts
+pub mod Outputs
+pub mod Read
+pub mod RowParts
+pub mod Sends
+pub mod Taken

@@ -1,0 +1,5 @@
+pub mod Fields
+pub mod LineFields
+pub mod Numbers
+pub mod Puts
+pub mod RowLines

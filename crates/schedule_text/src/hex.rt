@@ -1,0 +1,50 @@
+ghost use Rattle.std.specs.Prelude.{◌≡◌, ℕ, ◌<◌, List, false, IfOk, OnErr};
+ghost use Rattle.std.specs.Fmt.{digit_glyph};
+ghost use Rattle.tw_machine.specs.Grammar.{IsPayload, hex_digits, hex_word};
+
+use crate::grammar::Grammar;
+use arrayvec::ArrayVec;
+
+/// The most bytes of a payload.
+const BYTES: usize = 1024;
+
+/// The number below 16 that a lower-case digit stands for.
+fn digit(glyph: u8) -> Result<u8, Grammar>
+    ensures read { IfOk result (λ d. (d < 16) × (glyph ≡ digit_glyph false d)) }
+    ensures refused { OnErr result ((d : ℕ) → d < 16 → glyph ≡ digit_glyph false d → ⊥) }
+{
+    match glyph {
+        b'0'..=b'9' => Ok(glyph - b'0'),
+        b'a'..=b'f' => Ok(glyph - b'a' + 10),
+        _ => Err(Grammar),
+    }
+}
+
+/// The bytes that lower-case hexadecimal digits spell, two a byte, 1,024 bytes at most.
+fn bytes_of(digits: &[u8]) -> Result<ArrayVec<u8, 1024>, Grammar>
+    ensures read { IfOk result (λ bytes. IsPayload bytes.items × (digits.now ≡ hex_digits bytes.items)) }
+    ensures refused { OnErr result ((bytes : List ℕ) → IsPayload bytes → digits.now ≡ hex_digits bytes → ⊥) }
+{
+    if digits.len() % 2 == 1 || digits.len() / 2 > BYTES {
+        return Err(Grammar);
+    }
+    let mut bytes = ArrayVec::new();
+    for i in 0..digits.len() / 2 {
+        let high = digit(digits[2 * i])?;
+        let low = digit(digits[2 * i + 1])?;
+        bytes.push(16 * high + low);
+    }
+    Ok(bytes)
+}
+
+/// The bytes that a word spells, 1,024 at most: two lower-case hexadecimal digits a byte, and `-` for no byte.
+pub fn payload(word: &[u8]) -> Result<ArrayVec<u8, 1024>, Grammar>
+    ensures read { IfOk result (λ bytes. IsPayload bytes.items × (word.now ≡ hex_word bytes.items)) }
+    ensures refused { OnErr result ((bytes : List ℕ) → IsPayload bytes → word.now ≡ hex_word bytes → ⊥) }
+{
+    match word {
+        b"" => Err(Grammar),
+        b"-" => Ok(ArrayVec::new()),
+        _ => bytes_of(word),
+    }
+}

@@ -1,0 +1,20 @@
+//! The text of schedules and rows: lines are read as the team and the steps that they spell, rows are written, and the
+//! statuses of a command have their texts.
+#![tactic(auto)]
+
+mod answer;
+mod fields;
+mod grammar;
+mod hex;
+mod limits;
+mod line;
+mod output;
+mod row;
+mod status;
+
+pub use grammar::{Grammar, read_step, read_team};
+pub use limits::texts_tell_rows_apart;
+pub use output::write_all;
+pub use row::write_row;
+pub use status::{Status, Text};
+pub use tw_types::Cause;

@@ -1,8 +1,0 @@
--- What still has bytes has at least one field.
-use Rattle.std.proofs.Common.{ap, length, arith, ◌==◌, sym, ◌∙◌}
-use Rattle.std.proofs.lemmas.List.Splits.{length-slice_split}
-use Rattle.timewheel.specs.Fields.{fields_of}
-use Rattle.timewheel.proofs.fields.Fields.end.Goals as goal
-
-pub returns-in-Some-clause-some : goal.returns-in-Some-clause-some
-returns-in-Some-clause-some c = λ e. let h = ap length (sym (ap fields_of c.in-Some.is) ∙ e) in omega (arith, length-slice_split (λ b. b == 32) c.in-Some.field-0.now)

@@ -1,0 +1,25 @@
+-- The law of the delays.
+use Rattle.tw_machine.proofs.History.{dispatches_are_sent}
+use Rattle.tw_machine.proofs.DelayLaw.{receipt_found, sent_before, echo_covers, interval_covers, rate_covers, given_holds}
+use Rattle.tw_machine.proofs.laws.bounds_cover_every_delay.Goals as goal
+
+pub returns-clause-sent : goal.returns-clause-sent
+returns-clause-sent c = dispatches_are_sent
+
+pub returns-clause-receipt : goal.returns-clause-receipt
+returns-clause-receipt c = receipt_found
+
+pub returns-clause-before : goal.returns-clause-before
+returns-clause-before c = sent_before
+
+pub returns-clause-echo : goal.returns-clause-echo
+returns-clause-echo c = echo_covers
+
+pub returns-clause-interval : goal.returns-clause-interval
+returns-clause-interval c = interval_covers
+
+pub returns-clause-rate : goal.returns-clause-rate
+returns-clause-rate c = rate_covers
+
+pub returns-clause-told : goal.returns-clause-told
+returns-clause-told c = given_holds

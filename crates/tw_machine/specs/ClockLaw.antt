@@ -1,0 +1,69 @@
+-- What the clocks of a schedule owe to team time.
+use Rattle.std.specs.Prelude.{ℕ, ◌+◌, ◌-◌, ◌≤◌, ◌≡◌, nat_le, true, List, [], ◌∷◌, Option, Ok, IfSome}
+use Rattle.std.specs.List.{list_all, AllByRecursion}
+use Rattle.tw_types.specs.declared.team.Team.{Team}
+use Rattle.tw_num.specs.declared.interval.Interval.{Interval}
+use Rattle.tw_num.specs.Interval.{Holds}
+use Rattle.tw_num.specs.Clock.{interval_at}
+use Rattle.tw_num.specs.Rate.{Rate, rate}
+use Rattle.tw_types.specs.Trips.{trip_of}
+use Rattle.tw_types.specs.declared.step.Step.{Step}
+use Rattle.tw_machine.specs.Schedule.{is_built}
+use Rattle.tw_machine.specs.Admissible.{each_own, keeps_drift}
+use Rattle.tw_types.specs.Process.{Process}
+use Rattle.tw_types.specs.Row.{Row}
+use Rattle.tw_machine.specs.Event.{Packet}
+use Rattle.tw_machine.specs.Step.{heard}
+use Rattle.tw_machine.specs.Rows.{row_of}
+use Rattle.tw_machine.specs.History.{Dispatch}
+
+-- each step of the schedule is of an act that a replay takes today
+abbrev pub AreBuilt : List Step → Type 0
+AreBuilt past = AllByRecursion (λ (s : Step). is_built s.act ≡ true) past
+
+-- Process who may read h at team time t once these steps are done: none of them is later, and its clock keeps the drift from
+-- each of its own.
+pub record MayRead (ppm who : ℕ) (past : List Step) (t h : ℕ) : Type 0 where
+  pub time : list_all (λ (e : Step). nat_le e.t t) past ≡ true
+  pub drift : each_own (λ e. keeps_drift ppm e.t e.h t h) who past ≡ true
+
+-- what the clock of a process has for an interval at its reading h holds team time t
+abbrev pub ClockHolds : (ppm t h : ℕ) → Process → Type 0
+ClockHolds ppm t h p = IfSome (interval_at ppm h p.timing.clock) (λ i. Holds i t)
+
+-- the interval that a datagram was sent with, where it has one, held team time when it was sent
+abbrev pub SentWell : Dispatch → Type 0
+SentWell d = IfSome d.datagram.head.interval (λ i. Holds i d.at)
+
+-- A bound of the time that a datagram was on its way, which is received at this step, is not too low.
+abbrev pub Covers : Step → Dispatch → ℕ → Type 0
+Covers s d bound = s.t - d.at ≤ bound
+
+-- the interval that a process has at this step once it heard the datagram
+abbrev pub own_interval : Team → Step → Dispatch → Process → Option Interval
+own_interval team s d p = interval_at team.ppm s.h (heard team p.identity.who s.h (Packet (Ok d.datagram)) p.timing).timing.clock
+
+-- the rate of a datagram that the process receives at this step
+abbrev pub rate_at : Team → Step → Dispatch → Process → Rate
+rate_at team s d p = rate team.ppm team.delta (trip_of d.datagram.head s.h) (own_interval team s d p) d.datagram.head.interval
+
+-- a reading is at most eps away from team time t, on either side
+pub record IsNear (eps t reading : ℕ) : Type 0 where
+  pub not_ahead : reading ≤ t + eps
+  pub not_behind : t ≤ reading + eps
+
+-- the reading of a row, where it has one, is near the team time of its step
+abbrev pub ReadsNear : ℕ → Step → Row → Type 0
+ReadsNear eps s r = IfSome r.reading (λ reading. IsNear eps s.t reading)
+
+-- each step's row reads near its team time
+abbrev pub ReadsWell : Team → List Step → Type 0
+ReadsWell team [] = Unit {0}
+ReadsWell team (s ∷ past) = ReadsWell team past × ReadsNear team.eps s (row_of team past s)
+
+-- there are as many rows as steps, and each row reads near the team time of the step in its place
+abbrev pub EachReadsNear : ℕ → List Step → List Row → Type 0
+EachReadsNear eps [] [] = Unit {0}
+EachReadsNear eps (s ∷ ss) (r ∷ rs) = ReadsNear eps s r × EachReadsNear eps ss rs
+EachReadsNear eps [] (r ∷ rs) = ⊥
+EachReadsNear eps (s ∷ ss) [] = ⊥

@@ -1,0 +1,17 @@
+pub mod Schedule
+pub mod Grammar
+pub mod Admissible
+pub mod Event
+pub mod Packet
+pub mod Hearing
+pub mod Beating
+pub mod Step
+pub mod World
+pub mod History
+pub mod RowText
+pub mod Rows
+pub mod Places
+pub mod Started
+pub mod SafeRows
+pub mod ClockLaw
+pub mod RowLimits

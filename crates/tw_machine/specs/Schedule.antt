@@ -1,0 +1,16 @@
+-- A schedule is a list of steps of processes, the newest first, so what stands behind a step is its past. A datagram is
+-- lost where no step receives it, and repeated where two do. The timed model is Cristian and Fetzer's.
+use Rattle.std.specs.Prelude.{Bool, true, false}
+use Rattle.tw_types.specs.declared.step.Act.{Act}
+use Rattle.tw_types.specs.declared.step.Act.TheVariants.{First, Again, Crash, Tick, Recv, Send, Reference, Look}
+
+-- the acts that a replay takes today
+abbrev pub is_built : Act → Bool
+is_built First = true
+is_built (Reference lo hi) = true
+is_built Look = true
+is_built Again = false
+is_built Crash = false
+is_built Tick = true
+is_built (Recv d) = true
+is_built (Send o a p) = false

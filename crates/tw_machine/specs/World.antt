@@ -1,0 +1,80 @@
+-- What a schedule makes of the processes.
+use Rattle.std.specs.Prelude.{ℕ, ◌≡◌, ◌==◌, if◌then◌else◌, List, [], ◌∷◌, ◌++◌, Option, Some, None, Ok}
+use Rattle.tw_types.specs.declared.team.Team.{Team}
+use Rattle.tw_types.specs.declared.datagram.Datagram.{Datagram}
+use Rattle.tw_types.specs.declared.step.Act.{Act}
+use Rattle.tw_types.specs.declared.step.Step.{Step}
+use Rattle.tw_types.specs.declared.step.Act.TheVariants.{First, Again, Crash, Tick, Recv, Send, Reference, Look}
+use Rattle.tw_types.specs.declared.answer.Answer.{Answer}
+use Rattle.tw_types.specs.declared.answer.Answer.TheVariants as answers
+use Rattle.tw_types.specs.declared.row.RowAnswer.{RowAnswer}
+use Rattle.tw_types.specs.declared.outputs.Outputs.{Outputs}
+use Rattle.tw_types.specs.declared.outputs.Mode.TheVariants as modes
+use Rattle.tw_types.specs.Outputs.{nothing}
+use Rattle.tw_types.specs.Process.{Process, started}
+use Rattle.tw_machine.specs.Event.{Event, Outcome}
+use Rattle.tw_machine.specs.Step.{step, looked}
+use Rattle.tw_machine.specs.Admissible.{sent_as, cause_of}
+
+-- the running processes, and all datagrams sent so far, each with its receiver, in the order in which they were sent
+pub record World : Type 0 where
+  pub process_of : ℕ → Option Process
+  pub sent : List (ℕ × Datagram)
+
+-- what an act comes to: what then runs of the process, how the step ended, and what it gave
+pub record Deed : Type 0 where
+  pub process : Option Process
+  pub answer : RowAnswer
+  pub out : Outputs
+
+abbrev pub row_answer : Answer → RowAnswer
+row_answer answers.Done = RowAnswer.Done
+row_answer (answers.Dropped reason) = RowAnswer.Dropped reason
+
+-- an act that gives nothing
+abbrev pub silent : Option Process → RowAnswer → Deed
+silent p answer = record { process = p; answer = answer; out = nothing }
+
+abbrev pub deed_of : Outcome → Deed
+deed_of o = record { process = Some o.process; answer = row_answer o.answer; out = o.out }
+
+abbrev pub happen : Team → ℕ → Event → Process → Deed
+happen team h e p = deed_of (step team h e p)
+
+-- what a process receives is what the datagram spells; of one that wasn't sent nothing comes
+abbrev pub receive : Team → ℕ → Option (ℕ × Datagram) → Process → Deed
+receive team h None p = silent (Some p) RowAnswer.Done
+receive team h (Some d) p = happen team h (Event.Packet (Ok d.1)) p
+
+-- An act of process who at its reading h, after these datagrams were sent. A send isn't built yet and changes nothing.
+abbrev pub deed : Team → ℕ → ℕ → List (ℕ × Datagram) → Act → Option Process → Deed
+deed team who h sent First p = silent (Some (started who modes.First h)) RowAnswer.Start
+deed team who h sent Again p = silent (Some (started who modes.Again h)) RowAnswer.Start
+deed team who h sent Crash p = silent None RowAnswer.Crash
+deed team who h sent act None = silent None RowAnswer.Done
+deed team who h sent Tick (Some p) = happen team h Event.Tick p
+deed team who h sent (Recv d) (Some p) = receive team h (sent_as d sent) p
+deed team who h sent (Send order atom payload) (Some p) = silent (Some p) RowAnswer.Done
+deed team who h sent (Reference lo hi) (Some p) = happen team h (Event.Reference lo hi) p
+deed team who h sent Look (Some p) = silent (Some (looked team h p)) RowAnswer.Look
+
+-- what a step comes to in a world
+abbrev pub deed_in : Team → World → Step → Deed
+deed_in team w s = deed team s.who s.h w.sent s.act (w.process_of s.who)
+
+-- nobody runs and nothing was sent
+abbrev pub nobody : World
+nobody = record { process_of = λ i. None; sent = [] }
+
+abbrev pub world_after : Team → World → Step → World
+world_after team w s = record { process_of = λ i. if s.who == i then (deed_in team w s).process else w.process_of i; sent = w.sent ++ (deed_in team w s).out.sends }
+
+-- the world after all steps of a schedule
+abbrev pub world : Team → List Step → World
+world team [] = nobody
+world team (s ∷ past) = world_after team (world team past) s
+
+-- each step of the schedule may follow the steps before it
+abbrev pub Admissible : Team → List Step → Type 0
+Admissible team [] = Unit {0}
+Admissible team (s ∷ past) = Admissible team past × (cause_of team (world team past).sent past s ≡ None)

@@ -1,0 +1,35 @@
+-- What a process keeps, in one small record for each concern.
+use Rattle.std.specs.Prelude.{ℕ, Option, None}
+use Rattle.tw_num.specs.Clock.{Clock, fresh}
+use Rattle.tw_types.specs.declared.outputs.Mode.{Mode}
+use Rattle.tw_types.specs.declared.datagram.Echo.{Echo}
+
+-- Who it is: its number, how it was started, its hardware reading at the beginning of this life, and that at its start.
+pub record Identity : Type 0 where
+  pub who : ℕ
+  pub mode : Mode
+  pub incarnation : ℕ
+  pub began : ℕ
+
+-- What it knows of time: all that it was given, and of each process the greatest stamp that it heard, with its own reading
+-- when it heard it.
+pub record Timing : Type 0 where
+  pub clock : Clock
+  pub heard : ℕ → Option Echo
+
+-- its own reading at its last sign of life
+pub record Beat : Type 0 where
+  pub last : Option ℕ
+
+pub record Process : Type 0 where
+  pub identity : Identity
+  pub timing : Timing
+  pub beat : Beat
+
+-- a process that was just started at its reading h
+abbrev pub started : ℕ → Mode → ℕ → Process
+started who mode h = record {
+  identity = record { who = who; mode = mode; incarnation = h; began = h };
+  timing = record { clock = fresh; heard = λ q. None };
+  beat = record { last = None };
+}

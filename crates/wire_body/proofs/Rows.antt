@@ -1,0 +1,35 @@
+-- One item more of a list.
+use Rattle.std.proofs.Common.{◌≡◌, ℕ, suc, ◌+◌, ◌-◌, ◌*◌, ◌<◌, ◌≤◌, List, [], ◌∷◌, ◌++◌, length, get_or, take, Result, Ok, refl, sym, ap, subst, ◌∙◌, arith}
+use Rattle.std.specs.List.{flat_map}
+use Rattle.std.proofs.lemmas.List.{flat_map_more, take_more}
+use Rattle.wire_head.specs.Writing.{Writes}
+use Rattle.wire_head.proofs.Written.{written_then}
+use Rattle.wire_head.proofs.Zeros.{written_none}
+use Rattle.tw_types.specs.declared.datagram.WireFault.{WireFault}
+use Rattle.wire_head.specs.Reading.{◌>>=◌}
+use Rattle.wire_body.specs.Lists.{items_at}
+
+module _ {X : Type 0} (size : ℕ) (item_at : List X → List ℕ → ℕ → Result X WireFault) (bytes : List ℕ) where
+  pub items_more : (before : List X) (count i place : ℕ) → i < count → items_at size item_at (count - i) before bytes (place + size * i) ≡ (item_at before bytes (place + size * i) >>= λ x. items_at size item_at (count - (i + 1)) (before ++ x ∷ []) bytes (place + size * (i + 1)))
+  unfolding items_at
+  items_more before count i place lt =
+      let k : count - i ≡ suc (count - (i + 1)) = omega arith in
+      let next : place + size * i + size ≡ place + size * (i + 1) = grind arith in
+      rw (k, next) refl
+
+  pub items_end : (before : List X) (count i place : ℕ) → count ≤ i → items_at size item_at (count - i) before bytes place ≡ Ok before
+  unfolding items_at
+  items_end before count i place le =
+      let k : count - i ≡ 0 = omega arith in
+      rw k refl
+
+-- one item more was written
+pub written_item : {X : Type 0} (f : X → List ℕ) (old : List ℕ) (place : ℕ) (items : List X) (i : ℕ) (x : X) (mid : List ℕ) (between : ℕ) (new : List ℕ) (end : ℕ) → i < length items → x ≡ get_or items i x → Writes old place (flat_map f (take i items)) mid between → Writes mid between (f x) new end → Writes old place (flat_map f (take (i + 1) items)) new end
+written_item {X} f old place items i x mid between new end lt is w v =
+    let longer : take (i + 1) items ≡ take i items ++ x ∷ [] = take_more items i x lt ∙ ap (λ (y : X). take i items ++ y ∷ []) (sym is) in
+    let text : flat_map f (take i items) ++ f x ≡ flat_map f (take (i + 1) items) = flat_map_more f [] (take i items) x ∙ ap (flat_map f) (sym longer) in
+    subst (λ (t : List ℕ). Writes old place t new end) text (written_then w v)
+
+-- before the first
+pub written_nothing : (old : List ℕ) (place : ℕ) → place ≤ length old → Writes old place [] old place
+written_nothing old place le = written_none old place le

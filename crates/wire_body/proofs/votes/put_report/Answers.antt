@@ -1,0 +1,14 @@
+use Rattle.wire_head.proofs.Written.{written_then, written_last}
+use Rattle.wire_body.proofs.votes.put_report.Goals as goal
+
+pub returns-clause-text : goal.returns-clause-text
+returns-clause-text c =
+    written_then c.put_byte-place.ensures.text (
+    written_then c.put_u64-place.ensures.text (
+    written_then (rw (← c.kind_number.ensures) c.put_byte-place-2.ensures.text) (
+    written_then c.put_u64-place-2.ensures.text (
+    written_then c.put_u64-place-3.ensures.text (
+    written_then c.put_u64-place-4.ensures.text (
+    written_then (rw (← c.presence.ensures) c.put_byte-place-3.ensures.text) (
+    written_then c.put_support-place.ensures.text (
+    written_last c.put_u64.ensures.text))))))))

@@ -1,0 +1,4 @@
+pub mod Bytes
+pub mod Acts
+pub mod Histories
+pub mod Worlds

@@ -1,0 +1,244 @@
+//! What is kept of one process of a schedule.
+
+ghost use Rattle.std.specs.Prelude.{◌≡◌, ◌<◌, ◌^◌, ℕ, true, List, [], Some, Option, Ok};
+ghost use Rattle.std.specs.List.{AllByRecursion};
+ghost use Rattle.tw_num.specs.Clock.{IsNotBefore};
+ghost use Rattle.tw_types.specs.declared.team.Team.{Team as TeamSeen};
+ghost use Rattle.tw_types.specs.declared.datagram.Datagram.{Datagram};
+ghost use Rattle.tw_types.specs.Process.{Process};
+ghost use Rattle.tw_types.specs.Ranges.{DatagramFits};
+ghost use Rattle.tw_types.specs.Spelling.{spelling};
+ghost use Rattle.tw_types.specs.Team.{IsSound};
+ghost use Rattle.tw_machine.specs.Admissible.{is_start, holds_time};
+ghost use Rattle.tw_types.specs.Outputs.{nothing};
+ghost use Rattle.tw_machine.specs.Admissible.{may_receive};
+ghost use Rattle.tw_machine.specs.Event.{Packet};
+ghost use Rattle.tw_machine.specs.Grammar.{IsAct};
+ghost use Rattle.tw_machine.specs.World.{row_answer, deed};
+ghost use Rattle.node_core.specs.Sends.{IsSendable};
+ghost use Rattle.node_core.specs.StandsFor.{StandsFor};
+ghost use Rattle.world.specs.Datagrams.{SentStandsFor};
+ghost use Rattle.world.specs.Deeds.{IsReady, HasTaken, IsDone, IsDeed};
+
+use crate::readings::Readings;
+use crate::refused::Refused;
+use crate::sent::Sent;
+use node_core::{Core, Event};
+use std::alloc::Global;
+use tw_num::WantOfMemory;
+use tw_types::{Act, Answer, Mode, Outputs, RowAnswer, Step, Team, View};
+
+/// What is kept of a process: all its readings, whether it was ever started, and what runs of it.
+#[derive(Debug, Drop)]
+pub struct Node {
+    pub readings: Readings,
+    pub started: bool,
+    pub core: Option<Core>,
+}
+
+fn is_start(act: &Act) -> bool
+    ensures { result ≡ is_start act.now }
+{
+    matches!(act, Act::First | Act::Again)
+}
+
+/// Whether the interval that the step gives, if it gives one, holds the step's team time.
+fn holds_time(step: &Step) -> bool
+    ensures { result ≡ holds_time step.now step.now.act }
+{
+    match step.act {
+        Act::Reference { lo, hi } => lo <= step.t && step.t <= hi,
+        _ => true,
+    }
+}
+
+fn row_answer(answer: Answer) -> RowAnswer
+    ensures { result ≡ row_answer answer }
+{
+    match answer {
+        Answer::Done => RowAnswer::Done,
+        Answer::Dropped(reason) => RowAnswer::Dropped(reason),
+    }
+}
+
+impl Node {
+    ghost use Rattle.std.specs.Prelude.{◌≡◌, ◌≤◌, ◌<◌, ◌^◌, ◌||◌, ◌++◌, ◌∷◌, [], ℕ, List, true, is_some, Option, OnOk, OnErr};
+    ghost use Rattle.std.specs.List.{AllByRecursion};
+    ghost use Rattle.tw_types.specs.declared.team.Team.{Team as TeamSeen};
+    ghost use Rattle.tw_types.specs.declared.datagram.Datagram.{Datagram};
+    ghost use Rattle.tw_types.specs.Process.{Process};
+    ghost use Rattle.tw_types.specs.Team.{IsSound};
+    ghost use Rattle.tw_machine.specs.Admissible.{is_start, may_receive};
+    ghost use Rattle.tw_machine.specs.Grammar.{IsAct};
+    ghost use Rattle.tw_machine.specs.Schedule.{is_built};
+    ghost use Rattle.tw_machine.specs.World.{deed};
+    ghost use Rattle.node_core.specs.Sends.{IsSendable};
+    ghost use Rattle.world.specs.Causes.{told};
+    ghost use Rattle.world.specs.Kept.{kept_cause, is_of, IsFresh};
+    ghost use Rattle.world.specs.Datagrams.{SentStandsFor};
+    ghost use Rattle.world.specs.Deeds.{RunsAs, NotBefore, IsReady, IsDeed};
+
+    /// A process that was never started.
+    pub fn new(alloc: Global) -> Node
+        ensures { IsFresh result }
+    {
+        Node {
+            readings: Readings::new(alloc),
+            started: false,
+            core: None,
+        }
+    }
+
+    /// Why the process can't take the step, after steps of which the last was at team time `latest`; `received` says whether
+    /// what the step receives was sent to it.
+    pub fn refusal(&self, ppm: u64, latest: u64, received: bool, step: &Step) -> Option<Refused>
+        requires { ppm ≤ 1000 }
+        ensures { told result ≡ kept_cause ppm latest received self.now step.now }
+    {
+        if step.t < latest {
+            return Some(Refused::Time);
+        }
+        if !self.readings.keep_drift(ppm, step) {
+            return Some(Refused::Drift);
+        }
+        if is_start(&step.act) {
+            if self.core.is_some()
+                || !self.readings.are_below(step.h)
+                || (step.act == Act::First && self.started)
+            {
+                return Some(Refused::Start);
+            }
+        } else if self.core.is_none() {
+            return Some(Refused::NotRunning);
+        }
+        if !received {
+            return Some(Refused::NoDatagram);
+        }
+        if !holds_time(step) {
+            return Some(Refused::Reference);
+        }
+        None
+    }
+
+    /// Keeps the reading of a step that is taken, and starts the process where the step does. An `Err` leaves all as it was.
+    pub fn note(&mut self, alloc: Global, team: &Team, step: &Step) -> Result<(), WantOfMemory>
+        requires sound { IsSound team.now }
+        requires who { step.now.who < team.now.n }
+        requires h { step.now.h < 2 ^ 60 }
+        requires built { is_built step.now.act ≡ true }
+        ensures readings { OnOk result (self.new.readings ≡ self.old.readings ++ record { t = step.now.t; h = step.now.h } ∷ []) }
+        ensures started { OnOk result (self.new.started ≡ (self.old.started || is_start step.now.act)) }
+        ensures ready { OnOk result ((before : Option Process) → RunsAs team.now self.old.core before → NotBefore step.now.h before →
+            (is_start step.now.act || is_some self.old.core) ≡ true → IsReady team.now step.now.who step.now.h step.now.act self.new.core before) }
+        ensures same_team { is_of team.now.n self.old ≡ true → is_of team.now.n self.new ≡ true }
+        ensures same { OnErr result (self.new ≡ self.old) }
+    {
+        if is_start(&step.act) {
+            let core = Core::new(alloc, *team, step.who, Mode::First, step.h)?;
+            self.readings.note(step)?;
+            self.started = true;
+            self.core = Some(core);
+        } else {
+            self.readings.note(step)?;
+        }
+        Ok(())
+    }
+
+    /// What the act of a step makes of the process, which is ready for it. Answers how the step ended and what the process
+    /// then says of itself, and puts what it gives into `out`. A process that doesn't run does nothing.
+    pub fn act(&mut self, step: &Step, sent: &Sent, out: &mut Outputs) -> (RowAnswer, View)
+        requires h { step.now.h < 2 ^ 60 }
+        requires act { IsAct step.now.act }
+        ensures deed { (team : TeamSeen) (before : Option Process) (datagrams : List (ℕ × Datagram)) → IsSound team → team.line < 2 ^ 32 →
+            SentStandsFor team sent.now datagrams → may_receive datagrams step.now step.now.act ≡ true →
+            IsReady team step.now.who step.now.h step.now.act self.old.core before →
+            IsDeed team step.now.h self.new.core result.0 result.1 out.new before (deed team step.now.who step.now.h datagrams step.now.act before) }
+        ensures fits { (n : ℕ) → is_of n self.old ≡ true → AllByRecursion (IsSendable n) out.new.sends }
+        ensures same_team { (n : ℕ) → is_of n self.old ≡ true → is_of n self.new ≡ true }
+        ensures readings { self.new.readings ≡ self.old.readings }
+        ensures started { self.new.started ≡ self.old.started }
+    {
+        match &mut self.core {
+            Some(core) => act(core, step, sent, out),
+            None => idle(out),
+        }
+    }
+}
+
+/// Nothing happens to a process that doesn't run.
+fn idle(out: &mut Outputs) -> (RowAnswer, View)
+    ensures { out.new.sends ≡ [] }
+{
+    out.clear();
+    let view = View {
+        incarnation: 0,
+        reading: None,
+        up: false,
+        group: 0,
+        turn: 0,
+        length: 0,
+        passed: 0,
+    };
+    (RowAnswer::Done, view)
+}
+
+/// The process receives these bytes at its reading `h`.
+fn receive(core: &mut Core, bytes: &[u8], h: u64, out: &mut Outputs) -> Answer
+    requires { h < 2 ^ 60 }
+    ensures received { (team : TeamSeen) (d : Datagram) (p : Process) → IsSound team → team.line < 2 ^ 32 → DatagramFits team.n d →
+        bytes.now ≡ spelling team.line d → core.old.team ≡ team → StandsFor core.old p → IsNotBefore h p.timing.clock →
+        HasTaken team h (Packet (Ok d)) core.new result out.new p }
+    ensures fits { AllByRecursion (IsSendable core.old.team.n) out.new.sends }
+    ensures team { core.new.team ≡ core.old.team }
+{
+    core.step(Event::Packet(bytes), h, out)
+}
+
+/// What the act of a step makes of a running process, but for the look at it that ends each step.
+fn happen(core: &mut Core, step: &Step, sent: &Sent, out: &mut Outputs) -> RowAnswer
+    requires h { step.now.h < 2 ^ 60 }
+    requires act { IsAct step.now.act }
+    ensures done { (team : TeamSeen) (before : Option Process) (datagrams : List (ℕ × Datagram)) → IsSound team → team.line < 2 ^ 32 →
+        SentStandsFor team sent.now datagrams → may_receive datagrams step.now step.now.act ≡ true →
+        IsReady team step.now.who step.now.h step.now.act (Some core.old) before →
+        IsDone team step.now.h core.new result out.new (deed team step.now.who step.now.h datagrams step.now.act before) }
+    ensures fits { AllByRecursion (IsSendable core.old.team.n) out.new.sends }
+    ensures team { core.new.team ≡ core.old.team }
+{
+    match step.act {
+        Act::Tick => row_answer(core.step(Event::Tick, step.h, out)),
+        Act::Recv(number) => row_answer(receive(core, sent.bytes(number), step.h, out)),
+        Act::Reference { lo, hi } => row_answer(core.step(
+            Event::Reference { lo, hi },
+            step.h,
+            out,
+        )),
+        Act::First | Act::Again => silent(RowAnswer::Start, out),
+        Act::Look => silent(RowAnswer::Look, out),
+        Act::Crash | Act::Send { .. } => silent(RowAnswer::Done, out),
+    }
+}
+
+/// An act that gives nothing.
+fn silent(answer: RowAnswer, out: &mut Outputs) -> RowAnswer
+    ensures answer { result ≡ answer }
+    ensures out { out.new ≡ nothing }
+{
+    out.clear();
+    answer
+}
+
+/// What the act of a step makes of a running process.
+fn act(core: &mut Core, step: &Step, sent: &Sent, out: &mut Outputs) -> (RowAnswer, View)
+    requires h { step.now.h < 2 ^ 60 }
+    requires act { IsAct step.now.act }
+    ensures deed { (team : TeamSeen) (before : Option Process) (datagrams : List (ℕ × Datagram)) → IsSound team → team.line < 2 ^ 32 →
+        SentStandsFor team sent.now datagrams → may_receive datagrams step.now step.now.act ≡ true →
+        IsReady team step.now.who step.now.h step.now.act (Some core.old) before →
+        IsDeed team step.now.h (Some core.new) result.0 result.1 out.new before (deed team step.now.who step.now.h datagrams step.now.act before) }
+    ensures fits { AllByRecursion (IsSendable core.old.team.n) out.new.sends }
+    ensures team { core.new.team ≡ core.old.team }
+{
+    let answer = happen(core, step, sent, out);
+    (answer, core.look(step.h))
+}

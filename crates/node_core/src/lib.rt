@@ -12,6 +12,7 @@ mod process;
 mod timing;
 
 pub use process::{Core, Event, Identity};
+pub use tw_types::{Answer, Earlies, Mode, Outputs, Passes, ProposeFault, Reason, Sends, View};
 
 #[cfg(test)]
 mod tests;

@@ -4,6 +4,7 @@ ghost use Rattle.tw_types.specs.Ranges.{IntervalFits, EchoFits, DatagramFits};
 
 use crate::{Core, Event};
 use std::alloc::Global;
+use std::mem::size_of;
 use std::process::Abort;
 use std::test::Fail;
 use tw_num::{Interval, WantOfMemory};
@@ -312,4 +313,10 @@ fn a_contradiction(rt: HostRuntime) -> Result<(), Fail> {
         Answer::Done
     );
     Ok(())
+}
+
+/// A core has room for all that a process keeps, far below the 200 KB that it may take.
+#[test]
+fn a_core_is_small(rt: HostRuntime) {
+    assert!(rt; size_of::<Core>() < 200_000);
 }

@@ -17,4 +17,4 @@ pub use limits::texts_tell_rows_apart;
 pub use output::write_all;
 pub use row::write_row;
 pub use status::{Status, Text};
-pub use tw_types::Cause;
+pub use tw_types::{Act, Cause, Row, RowAnswer, RowLine, Step};

@@ -1,4 +1,4 @@
 pub mod Ends
 pub mod Shared
 pub mod Added
-pub mod Kept
+pub mod KeptClock

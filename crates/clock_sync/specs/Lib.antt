@@ -1,3 +1,3 @@
 pub mod Keys
-pub mod Kept
+pub mod KeptClock
 pub mod StandsFor

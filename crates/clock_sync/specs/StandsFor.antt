@@ -3,7 +3,7 @@ use Rattle.std.specs.Prelude.{◌≡◌, ℕ, ◌+◌, ◌-◌, ◌*◌, ◌^◌
 use Rattle.std.specs.List.{AllByRecursion}
 use Rattle.tw_num.specs.Clock.{Clock, Given, IsNotBefore, shared_at}
 use Rattle.clock_sync.specs.declared.keys.Keys.{Keys}
-use Rattle.clock_sync.specs.Kept.{Kept}
+use Rattle.clock_sync.specs.KeptClock.{KeptClock}
 
 -- P holds of some element
 abbrev pub AnyByRecursion : {X : Type 0} → (X → Type 0) → List X → Type 0
@@ -39,7 +39,7 @@ ShareTime ppm c = (h : ℕ) → IsNotBefore h c → IfSome (shared_at ppm h c.gi
 
 -- The clock keeps the greatest reading, the first refusal, and the greatest lower and least upper key of the whole list, or
 -- no keys for an empty list. It was made with this ppm and this eps.
-pub record StandsFor (ppm eps : ℕ) (clock : Kept) (c : Clock) : Type 0 where
+pub record StandsFor (ppm eps : ℕ) (clock : KeptClock) (c : Clock) : Type 0 where
   pub same_ppm : clock.ppm ≡ ppm
   pub same_eps : clock.eps ≡ eps
   pub keys : AreKeysOf ppm clock.keys c.given

@@ -16,15 +16,15 @@ pub struct TeamClock {
 
 impl Model for TeamClock {
     ghost use Rattle.std.specs.Prelude.{◌<◌, ◌≤◌, ◌^◌, IfSome};
-    ghost use Rattle.clock_sync.specs.Kept.{Kept};
+    ghost use Rattle.clock_sync.specs.KeptClock.{KeptClock};
     ghost use Rattle.clock_sync.specs.Keys.{IsInRange};
 
-    ghost Value = { Kept };
+    ghost Value = { KeptClock };
 
     ghost view = { λ a.
         record { ppm = a.ppm; eps = a.eps; keys = a.keys; greatest = a.greatest; disjoint = a.disjoint } };
 
-    ghost invariant = { λ a. (a.ppm ≤ 1000) × (a.eps < 2 ^ 60) × IfSome a.keys IsInRange ×
+    ghost invariant = { λ a. (a.ppm ≤ 1000) × IfSome a.keys IsInRange ×
         IfSome a.greatest (λ t. t < 2 ^ 60) };
 
     ghost inverse = { λ v.
@@ -33,7 +33,7 @@ impl Model for TeamClock {
 
 impl TeamClock {
     ghost use Rattle.std.specs.Prelude.{◌≡◌, ℕ, ◌+◌, ◌*◌, ◌<◌, ◌≤◌, ◌^◌, IfSome, MatchResult};
-    ghost use Rattle.tw_num.specs.Clock.{Clock, heard, fresh, IsNotBefore, refusal, clash, after_given};
+    ghost use Rattle.tw_num.specs.Clock.{Clock, delayed, fresh, IsNotBefore, refusal, clash, after_given};
     ghost use Rattle.tw_num.specs.Clock.{interval_at, reading_at, after_read, or_before};
     ghost use Rattle.clock_sync.specs.Keys.{interval_of};
     ghost use Rattle.clock_sync.specs.StandsFor.{StandsFor};
@@ -42,7 +42,6 @@ impl TeamClock {
     /// read while its interval is at most `2 * eps` wide.
     pub fn new(ppm: u64, eps: u64) -> TeamClock
         requires drift { ppm ≤ 1000 }
-        requires eps { eps < 2 ^ 60 }
         ensures { StandsFor ppm eps result fresh }
     {
         TeamClock {
@@ -89,13 +88,13 @@ impl TeamClock {
         requires range { interval.hi < 2 ^ 62 }
         requires bound { bound < 2 ^ 61 }
         ensures refusal { (ppm eps : ℕ) (c : Clock) → StandsFor ppm eps self.old c → IsNotBefore h c →
-            let why = refusal ppm h (heard interval bound) c
+            let why = refusal ppm h (delayed interval bound) c
             in MatchResult result (λ _. why ≡ None) (λ d. why ≡ Some d) }
         ensures given { (ppm eps : ℕ) (c : Clock) → StandsFor ppm eps self.old c → IsNotBefore h c →
-            StandsFor ppm eps self.new (after_given ppm h (heard interval bound) c) }
+            StandsFor ppm eps self.new (after_given ppm h (delayed interval bound) c) }
         // so the next call may be at h, or at any later reading
         ensures not_before { (ppm : ℕ) (c : Clock) → IsNotBefore h c →
-            IsNotBefore h (after_given ppm h (heard interval bound) c) }
+            IsNotBefore h (after_given ppm h (delayed interval bound) c) }
         ensures refused_before { IfSome self.old.disjoint (λ d. result ≡ Err d) }
         ensures kept { MatchResult result (λ _. self.new ≡ record self.old { keys = self.new.keys })
             (λ d. self.new ≡ record self.old { disjoint = Some d }) }
@@ -136,7 +135,7 @@ impl TeamClock {
         ensures kept { self.new ≡ record self.old { greatest = or_before result self.old.greatest } }
     {
         let interval = self.interval(h)?;
-        if interval.hi - interval.lo > 2 * self.eps || interval.hi >= 1 << 60 {
+        if (interval.hi - interval.lo).div_ceil(2) > self.eps || interval.hi >= 1 << 60 {
             return None;
         }
         let middle = (interval.lo + interval.hi) / 2;

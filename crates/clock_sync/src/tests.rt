@@ -59,6 +59,26 @@ fn reads_an_interval_of_twice_eps(rt: HostRuntime) {
 }
 
 #[test]
+fn reads_up_to_the_last_reading(rt: HostRuntime) {
+    let last = (1 << 60) - 1;
+    let mut below = TeamClock::new(0, u64::MAX);
+    assert_eq!(rt; below.reference(5, 0, last - 1), Ok(()));
+    assert_eq!(rt; below.interval(5), Some(Interval { lo: 0, hi: last }));
+    assert_eq!(rt; below.read(5), Some(last / 2));
+
+    let mut above = TeamClock::new(0, u64::MAX);
+    assert_eq!(rt; above.reference(5, 0, last), Ok(()));
+    assert_eq!(rt;
+        above.interval(5),
+        Some(Interval {
+            lo: 0,
+            hi: last + 1
+        })
+    );
+    assert_eq!(rt; above.read(5), None);
+}
+
+#[test]
 fn holds_a_reading_that_would_fall(rt: HostRuntime) {
     let mut clock = TeamClock::new(0, 1000);
     assert_eq!(rt; clock.reference(5000, 4990, 6988), Ok(()));

@@ -3,7 +3,7 @@
 ghost use Rattle.std.specs.Prelude.{◌≡◌, ℕ, ◌-◌, ◌≤◌, Option, IfSome};
 ghost use Rattle.tw_num.specs.declared.interval.Interval.{Interval};
 ghost use Rattle.tw_num.specs.Interval.{Holds};
-ghost use Rattle.tw_num.specs.Clock.{heard};
+ghost use Rattle.tw_num.specs.Clock.{delayed};
 ghost use Rattle.tw_num.specs.Rate.{RoundTrip, IsRoundTrip, echo_bound, interval_bound, Rate, rate, IfRated};
 
 /// No bound is below the true delay of a packet that was sent at team time `left` and received at `arrived`, where clocks
@@ -26,6 +26,6 @@ pub fn bounds_cover_the_delay()
         ppm ≤ 1000 → IfSome trip (IsRoundTrip ppm left arrived) →
         IfSome own (λ i. Holds i arrived) → IfSome theirs (λ i. Holds i left) →
         rate ppm delta trip own theirs ≡ Rate.Timely bound → arrived - left ≤ delta }
-    ensures heard { (left arrived bound : ℕ) (i : Interval) → left ≤ arrived → arrived - left ≤ bound →
-        Holds i left → Holds (heard i bound) arrived }
+    ensures delayed { (left arrived bound : ℕ) (i : Interval) → left ≤ arrived → arrived - left ≤ bound →
+        Holds i left → Holds (delayed i bound) arrived }
 {}

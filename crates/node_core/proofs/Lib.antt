@@ -1,4 +1,4 @@
 pub mod Echoes
 pub mod Refusals
-pub mod Signs
+pub mod Others
 pub mod Steps

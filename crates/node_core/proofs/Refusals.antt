@@ -3,7 +3,6 @@ use Rattle.std.proofs.Common.{◌≡◌, refl, Option, Some, None, Result, Ok, E
 use Rattle.std.specs.Prelude.{is_some, if◌then◌else◌}
 use Rattle.std.specs.Result.{MatchResult}
 use Rattle.tw_num.specs.declared.interval.Disjoint.{Disjoint}
-use Rattle.tw_types.specs.declared.answer.Reason.{Reason}
 use Rattle.tw_types.specs.declared.answer.Reason.TheVariants as reasons
 use Rattle.node_core.specs.Reasons.{reason_of}
 

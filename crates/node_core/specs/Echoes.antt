@@ -4,9 +4,9 @@ use Rattle.std.specs.List.{list_all}
 use Rattle.tw_types.specs.declared.datagram.Echo.{Echo}
 
 -- a stamp and a reading that a datagram may tell
-abbrev pub is_told : Option Echo → Bool
-is_told None = true
-is_told (Some e) = nat_lt e.a (2 ^ 60) && nat_lt e.b (2 ^ 60)
+abbrev pub is_in_range : Option Echo → Bool
+is_in_range None = true
+is_in_range (Some e) = nat_lt e.a (2 ^ 60) && nat_lt e.b (2 ^ 60)
 
-abbrev pub are_told : List (Option Echo) → Bool
-are_told heard = list_all is_told heard
+abbrev pub are_in_range : List (Option Echo) → Bool
+are_in_range heard = list_all is_in_range heard

@@ -1,5 +1,5 @@
 -- The events of the code.
-use Rattle.std.specs.Prelude.{ℕ, ◌≤◌, ◌<◌, ◌^◌}
+use Rattle.std.specs.Prelude.{◌≤◌, ◌<◌, ◌^◌}
 use Rattle.tw_types.specs.declared.team.Team.{Team}
 use Rattle.tw_machine.specs.Event as machine
 use Rattle.wire_body.specs.Reading.{datagram_at}

@@ -1,5 +1,6 @@
 pub mod Echoes
 pub mod Reasons
+pub mod Moments
 pub mod Sends
 pub mod StandsFor
 pub mod Events

@@ -1,8 +1,10 @@
 -- When a process of the code stands for a process of the definitions, which keeps all that it was ever given.
-use Rattle.std.specs.Prelude.{◌≡◌, ℕ, ◌<◌, get_or, Option, None}
+use Rattle.std.specs.Prelude.{◌≡◌, ℕ, ◌<◌, get_or, None}
 use Rattle.tw_num.specs.Clock.{fresh}
 use Rattle.tw_types.specs.declared.team.Team.{Team}
 use Rattle.tw_types.specs.Process.{Identity, Timing, Beat, Process}
+use Rattle.tw_types.specs.declared.outputs.Outputs.{Outputs}
+use Rattle.tw_machine.specs.Run.{Run}
 use Rattle.clock_sync.specs.StandsFor as clock
 use Rattle.node_core.specs.declared.timing.Timing as code_timing
 use Rattle.node_core.specs.declared.beat.Beat as code_beat
@@ -28,3 +30,9 @@ pub record StandsFor (c : Core) (p : Process) : Type 0 where
   pub identity : p.identity ≡ identity_seen c.identity
   pub timing : TimingStandsFor c.team c.timing p.timing
   pub beat : p.beat ≡ beat_seen c.beat
+
+-- A process of this team and what it gave so far stand for a run. For what a history collects nothing stands.
+pub record RunStandsFor (team : Team) (c : Core) (out : Outputs) (r : Run) : Type 0 where
+  pub same_team : c.team ≡ team
+  pub process : StandsFor c r.process
+  pub given : out ≡ r.out

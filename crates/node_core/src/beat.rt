@@ -1,20 +1,8 @@
 //! A process's signs of life.
 
-ghost use Rattle.std.specs.Prelude.{◌≡◌, ◌==◌, ℕ, ◌+◌, ◌<◌, ◌≤◌, ◌^◌, ◌++◌, [], ◌∷◌, map, length, not, if◌then◌else◌, IfSome};
-ghost use Rattle.std.specs.List.{AllByRecursion};
-ghost use Rattle.tw_types.specs.declared.team.Team.{Team as TeamSeen};
-ghost use Rattle.tw_types.specs.Process.{Timing as TimingSeen};
-ghost use Rattle.tw_types.specs.Ranges.{IntervalFits, DatagramFits};
-ghost use Rattle.tw_types.specs.Team.{IsSound};
-ghost use Rattle.tw_num.specs.Clock.{IsNotBefore, interval_at};
-ghost use Rattle.tw_machine.specs.Beating.{is_due, sendable, head_to, sync_to, syncs, beat_after, beat_sends};
-ghost use Rattle.node_core.specs.StandsFor.{TimingStandsFor, identity_seen, beat_seen};
-ghost use Rattle.node_core.specs.Sends.{IsSendable};
-
-use crate::process::Identity;
-use crate::timing::Timing;
-use tw_num::Interval;
-use tw_types::{Body, Datagram, Head, Sends, Team};
+use crate::process::Core;
+use tw_num::Moment;
+use tw_types::{Body, Outputs};
 
 /// When a process last gave a sign of life, by its own clock.
 #[derive(Clone, Copy, Debug)]
@@ -38,63 +26,28 @@ impl Beat {
     }
 }
 
-/// Adds a sign of life to the process `to`, sent at `h`, unless that is this process.
-fn give_sign(
-    me: &Identity,
-    timing: &Timing,
-    interval: Option<Interval>,
-    h: u64,
-    to: u8,
-    sends: &mut Sends,
-)
-    requires to { to < 15 }
-    requires room { length sends.old < 64 }
-    ensures exact { (team : TeamSeen) (t : TimingSeen) → TimingStandsFor team timing.now t → interval ≡ sendable (interval_at team.ppm h t.clock) →
-        sends.new ≡ sends.old ++ map (sync_to team h (identity_seen me.now) t) (if not (to == me.now.who) then to ∷ [] else []) }
-    ensures fits { (n : ℕ) → to < n → n ≤ 15 → me.now.who < n → me.now.incarnation < 2 ^ 60 → h < 2 ^ 60 → IfSome interval IntervalFits →
-        AllByRecursion (IsSendable n) sends.old → AllByRecursion (IsSendable n) sends.new }
-    ensures few { length sends.new ≤ length sends.old + 1 }
-{
-    if to == me.who {
-        return;
-    }
-    let head = Head {
-        from: me.who,
-        to,
-        incarnation: me.incarnation,
-        sent: h,
-        interval,
-        echo: timing.heard(to),
-    };
-    let body = Body::Sync { ready: None };
-    sends.push((to, Datagram { head, body }));
-}
+impl Core {
+    ghost use Rattle.std.specs.Prelude.{◌≡◌, ◌≤◌, ◌+◌, length};
+    ghost use Rattle.tw_types.specs.declared.team.Team.{Team as TeamSeen};
+    ghost use Rattle.tw_machine.specs.Run.{Run};
+    ghost use Rattle.tw_machine.specs.Beating.{give_beat};
+    ghost use Rattle.node_core.specs.Moments.{MomentFits};
+    ghost use Rattle.node_core.specs.Sends.{GivesMore};
+    ghost use Rattle.node_core.specs.StandsFor.{RunStandsFor};
 
-/// Gives a sign of life to each other process where one is due at `h`.
-pub fn give_signs(
-    team: &Team,
-    me: &Identity,
-    timing: &Timing,
-    beat: &mut Beat,
-    h: u64,
-    sends: &mut Sends,
-)
-    requires sound { IsSound team.now }
-    requires who { me.now.who < team.now.n }
-    requires incarnation { me.now.incarnation < 2 ^ 60 }
-    requires reading { h < 2 ^ 60 }
-    requires room { sends.old ≡ [] }
-    ensures beat { beat_seen beat.new ≡ beat_after team.now h (beat_seen beat.old) }
-    ensures sends { (t : TimingSeen) → TimingStandsFor team.now timing.now t → IsNotBefore h t.clock →
-        sends.new ≡ beat_sends team.now h (identity_seen me.now) t (beat_seen beat.old) }
-    ensures fits { AllByRecursion (IsSendable team.now.n) sends.new }
-{
-    if !beat.is_due(team.pace, h) {
-        return;
-    }
-    beat.last = Some(h);
-    let interval = timing.sendable(h);
-    for to in 0..team.n {
-        give_sign(me, timing, interval, h, to, sends);
+    /// Gives a sign of life to each other process where a beat is due.
+    pub fn give_beat(&mut self, now: &Moment, out: &mut Outputs)
+        requires now { MomentFits now.now }
+        requires room { length out.old.sends + 14 ≤ 64 }
+        ensures stands { (team : TeamSeen) (r : Run) → RunStandsFor team self.old out.old r →
+            RunStandsFor team self.new out.new (give_beat team now.now r) }
+        ensures gives { GivesMore self.old.team.n 14 out.old out.new }
+        ensures team { self.new.team ≡ self.old.team }
+    {
+        if self.beat.is_due(self.team.pace, now.h) {
+            self.beat.last = Some(now.h);
+            let sign = Body::Sync { ready: None };
+            self.send_to_others(now, &sign, out);
+        }
     }
 }

@@ -1,14 +1,18 @@
 //! One process of a team: what an event makes of it, what it answers and what it sends.
 //!
-//! Rules held here: an event is a composition of parts, each with a function of its own that meets the part's definition.
-//! A packet is read and taken or dropped; what it tells of time is noted and given to the clock; the clock is read, whether
-//! or not the event is dropped; and then the duties run. No part takes memory.
+//! Rules held here: an event runs through the parts of a step, each with a function of its own that meets the part's
+//! definition. A packet is read and taken or dropped; what it tells of time is noted and given to the clock; the clock is read,
+//! whether or not the event is dropped; then the event's own rule runs, unless it was dropped; and then the duties run. No part
+//! takes memory.
 #![tactic(auto)]
 
 mod beat;
+mod duties;
 mod hearing;
 mod packet;
 mod process;
+mod rules;
+mod sending;
 mod timing;
 
 pub use process::{Core, Event, Identity};

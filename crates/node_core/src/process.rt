@@ -5,8 +5,8 @@ ghost use Rattle.std.proofs.Props.{props};
 ghost use Rattle.tw_types.specs.Team.{IsSound};
 ghost use Rattle.tw_machine.specs.Step.{answer_by};
 
-use crate::beat::{Beat, give_signs};
-use crate::hearing::heard;
+use crate::beat::Beat;
+use crate::hearing::learn;
 use crate::timing::Timing;
 use std::alloc::Global;
 use tw_num::WantOfMemory;
@@ -38,10 +38,10 @@ pub enum Event<'a> {
 /// A process of a team. It takes no memory once it is made.
 #[derive(Debug, Drop)]
 pub struct Core {
-    team: Team,
-    identity: Identity,
-    timing: Timing,
-    beat: Beat,
+    pub(crate) team: Team,
+    pub(crate) identity: Identity,
+    pub(crate) timing: Timing,
+    pub(crate) beat: Beat,
     ghost sound: { IsSound team } by { Prim.hlevel props },
     ghost who: { identity.who < team.n },
     ghost incarnation: { identity.incarnation < 2 ^ 60 },
@@ -50,10 +50,8 @@ pub struct Core {
 impl Core {
     ghost use Rattle.std.specs.Prelude.{◌≡◌, ◌<◌, ◌≤◌, ◌^◌, IfOk};
     ghost use Rattle.std.specs.List.{AllByRecursion};
-    ghost use Rattle.tw_types.specs.declared.team.Team.{Team as TeamSeen};
     ghost use Rattle.tw_types.specs.Process.{Process, started};
     ghost use Rattle.tw_num.specs.Clock.{IsNotBefore};
-    ghost use Rattle.tw_machine.specs.Event as machine;
     ghost use Rattle.tw_machine.specs.Step.{step, looked, view_of};
     ghost use Rattle.node_core.specs.Events.{event_seen, IsGivable};
     ghost use Rattle.node_core.specs.Sends.{IsSendable};
@@ -93,34 +91,23 @@ impl Core {
         ensures out { (p : Process) → StandsFor self.old p → IsNotBefore h p.timing.clock →
             out.new ≡ (step self.old.team h (event_seen self.old.team event.entry) p).out }
         ensures fits { AllByRecursion (IsSendable self.old.team.n) out.new.sends }
-        // so a look at the same reading changes nothing
-        ensures settled { (team : TeamSeen) (e : machine.Event) (p : Process) → looked team h (step team h e p).process ≡ (step team h e p).process }
         ensures team { self.new.team ≡ self.old.team }
     {
         out.clear();
-        let dropped = heard(&self.team, self.identity.who, &mut self.timing, event, h);
-        let _ = self.timing.read(h);
+        let packet = learn(&self.team, self.identity.who, &mut self.timing, event, h);
+        let now = self.timing.moment(h);
+        let dropped = self.rule(&now, packet, out);
         if event.has_duties() {
-            give_signs(
-                &self.team,
-                &self.identity,
-                &self.timing,
-                &mut self.beat,
-                h,
-                &mut out.sends,
-            );
+            self.duties(&now, out);
         }
         answer(dropped)
     }
 
-    /// What the process says of itself at the reading `h`, not below the last one. A look at the reading of the call before
-    /// changes nothing.
+    /// What the process says of itself at the reading `h`, not below the last one.
     pub fn look(&mut self, h: u64) -> View
         requires { h < 2 ^ 60 }
         ensures stands { (p : Process) → StandsFor self.old p → IsNotBefore h p.timing.clock → StandsFor self.new (looked self.old.team h p) }
         ensures view { (p : Process) → StandsFor self.old p → IsNotBefore h p.timing.clock → result ≡ view_of self.old.team h p }
-        // nor does a second look
-        ensures settled { (team : TeamSeen) (p : Process) → looked team h (looked team h p) ≡ looked team h p }
         ensures team { self.new.team ≡ self.old.team }
     {
         View {

@@ -2,15 +2,15 @@
 
 ghost use Rattle.std.specs.Prelude.{◌≡◌, ◌<◌, ◌≤◌, ◌^◌, true, IfSome};
 ghost use Rattle.std.specs.Option.{option_map};
-ghost use Rattle.tw_num.specs.Clock.{heard};
+ghost use Rattle.tw_num.specs.Clock.{delayed};
 ghost use Rattle.tw_types.specs.Ranges.{IntervalFits};
 ghost use Rattle.tw_machine.specs.Hearing.{told};
-ghost use Rattle.node_core.specs.Echoes.{are_told};
+ghost use Rattle.node_core.specs.Echoes.{are_in_range};
 ghost use Rattle.node_core.specs.Reasons.{reason_of};
 
 use clock_sync::TeamClock;
 use late_detector::echo_bound;
-use tw_num::{Disjoint, Interval};
+use tw_num::{Disjoint, Interval, Moment};
 use tw_types::{Echo, Head, Reason, Team};
 
 /// What a process knows of time: its clock, and of each process the greatest stamp that it heard, with its own reading then.
@@ -18,7 +18,7 @@ use tw_types::{Echo, Head, Reason, Team};
 pub struct Timing {
     clock: TeamClock,
     heard: [Option<Echo>; 15],
-    ghost told: { are_told heard ≡ true },
+    ghost range: { are_in_range heard ≡ true },
 }
 
 impl Timing {
@@ -26,9 +26,9 @@ impl Timing {
     ghost use Rattle.tw_types.specs.declared.team.Team.{Team};
     ghost use Rattle.tw_types.specs.Process.{Timing as Known};
     ghost use Rattle.tw_types.specs.Ranges.{EchoFits, IntervalFits};
-    ghost use Rattle.tw_num.specs.Clock.{IsNotBefore, fresh, interval_at, reading_at};
+    ghost use Rattle.tw_num.specs.Clock.{IsNotBefore, fresh, reading_at, moment_at};
     ghost use Rattle.tw_machine.specs.Hearing.{noted, told, given, is_refused, read};
-    ghost use Rattle.tw_machine.specs.Beating.{sendable};
+    ghost use Rattle.node_core.specs.Moments.{MomentFits};
     ghost use Rattle.node_core.specs.StandsFor.{TimingStandsFor, nothing_heard};
 
     /// Nothing is known of time.
@@ -95,16 +95,22 @@ impl Timing {
         self.clock.read(h)
     }
 
-    /// The interval that a datagram sent at `h` tells.
-    pub fn sendable(&self, h: u64) -> Option<Interval>
+    /// Reads the clock at `h`, and tells what it tells then.
+    pub fn moment(&mut self, h: u64) -> Moment
         requires { h < 2 ^ 60 }
-        ensures exact { (team : Team) (t : Known) → TimingStandsFor team self.now t → IsNotBefore h t.clock →
-            result ≡ sendable (interval_at team.ppm h t.clock) }
-        ensures fits { IfSome result IntervalFits }
+        ensures stands { (team : Team) (t : Known) → TimingStandsFor team self.old t → IsNotBefore h t.clock →
+            TimingStandsFor team self.new (read team h t) }
+        ensures exact { (team : Team) (t : Known) → TimingStandsFor team self.old t → IsNotBefore h t.clock →
+            result ≡ moment_at team.ppm team.eps h t.clock }
+        ensures fits { MomentFits result }
     {
-        self.clock
-            .interval(h)
-            .filter(|interval| interval.hi < 1 << 61)
+        let interval = self.clock.interval(h);
+        let reading = self.clock.read(h);
+        Moment {
+            h,
+            reading,
+            interval,
+        }
     }
 
     /// What was last heard of a process.
@@ -124,7 +130,7 @@ fn told(ppm: u64, h: u64, head: &Head) -> Option<(Interval, u64)>
     requires reading { h < 2 ^ 60 }
     requires sent { head.now.sent < 2 ^ 60 }
     requires interval { IfSome head.now.interval IntervalFits }
-    ensures told { told ppm h head.now ≡ option_map (λ p. heard p.0 p.1) result }
+    ensures told { told ppm h head.now ≡ option_map (λ p. delayed p.0 p.1) result }
     ensures ordered { IfSome result (λ p. p.0.lo ≤ p.0.hi) }
     ensures range { IfSome result (λ p. p.0.hi < 2 ^ 61) }
     ensures bound { IfSome result (λ p. p.1 < 2 ^ 61) }

@@ -5,3 +5,4 @@ pub mod Replays
 pub mod Sound
 pub mod Verdicts
 pub mod Tops
+mod Premises

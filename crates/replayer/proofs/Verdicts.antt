@@ -183,12 +183,12 @@ bad_line_of : (lines : List (List ℕ)) (v : Verdict) → IsVerdict lines v → 
 bad_line_of lines (Whole team past) is bad = let e = bad.2 in cc
 bad_line_of lines NoTeam is bad = inl is
 bad_line_of lines (Faulty fault) is bad = let e = bad.2 in cc
-bad_line_of lines (BadLine team past cause) is bad = inr (team, past, is.0, is.1, cause, is.2, is.3, is.4)
+bad_line_of lines (BadLine team past cause) is bad = inr (team, past, cause, is)
 bad_line_of lines (Endless team past) is bad = let e = bad.2 in cc
 
 bad_line_told : (lines : List (List ℕ)) (s : Status) (text : List ℕ) → Tells lines s text → HasBadLine lines → IsBadSchedule s
 bad_line_told lines s text tells (inl none) = (1, Grammar, status_is lines s text NoTeam tells none)
-bad_line_told lines s text tells (inr h) = (length h.1 + 2, h.4, status_is lines s text (BadLine h.0 h.1 h.4) tells (h.2, h.3, h.5, h.6, h.7))
+bad_line_told lines s text tells (inr h) = (length h.1 + 2, h.2, status_is lines s text (BadLine h.0 h.1 h.2) tells h.3)
 
 pub bad_schedule_exactly : (lines : List (List ℕ)) (s : Status) (text : List ℕ) → Tells lines s text → IsBadSchedule s ↔ HasBadLine lines
 bad_schedule_exactly lines s text tells = (λ bad. bad_line_of lines tells.0 tells.1 (bad.0, bad.1, sym tells.2 ∙ bad.2), λ has. bad_line_told lines s text tells has)
@@ -198,10 +198,10 @@ too_many_of lines (Whole team past) is e = cc
 too_many_of lines NoTeam is e = cc
 too_many_of lines (Faulty fault) is e = cc
 too_many_of lines (BadLine team past cause) is e = cc
-too_many_of lines (Endless team past) is e = (team, past, is.0, is.1, is.2, is.3)
+too_many_of lines (Endless team past) is e = (team, past, is)
 
 pub too_long_exactly : (lines : List (List ℕ)) (s : Status) (text : List ℕ) → Tells lines s text → (s ≡ status.TooLong) ↔ HasTooMany lines
-too_long_exactly lines s text tells = (λ e. too_many_of lines tells.0 tells.1 (sym tells.2 ∙ e), λ has. status_is lines s text (Endless has.0 has.1) tells (has.2, has.3, has.4, has.5))
+too_long_exactly lines s text tells = (λ e. too_many_of lines tells.0 tells.1 (sym tells.2 ∙ e), λ has. status_is lines s text (Endless has.0 has.1) tells has.2)
 
 nothing_before : (v : Verdict) (fault : TeamFault) → status_of v ≡ status.BadTeam fault → text_before v ≡ []
 nothing_before (Whole team past) fault e = cc

@@ -1,38 +1,31 @@
 -- What each status tells of a text, given by its lines.
-use Rattle.std.specs.Prelude.{ℕ, ◌<◌, ◌≡◌, ◌⊎◌, List, [], ◌∷◌, length, Some}
+use Rattle.std.specs.Prelude.{ℕ, ◌≡◌, ◌⊎◌, List}
 use Rattle.tw_types.specs.declared.team.Team.{Team}
 use Rattle.tw_types.specs.declared.team.TeamFault.{TeamFault}
-use Rattle.tw_types.specs.Team.{fault_of}
 use Rattle.tw_types.specs.declared.step.Cause.{Cause}
 use Rattle.schedule_text.specs.declared.status.Status.{Status}
 use Rattle.schedule_text.specs.declared.status.Status.TheVariants as status
 use Rattle.tw_types.specs.declared.step.Step.{Step}
-use Rattle.tw_machine.specs.Grammar.{IsTeamLine}
-use Rattle.replayer.specs.Replay.{step_limit, Begins, IsBadLine}
+use Rattle.replayer.specs.Replay.{Whole, NoTeam, Faulty, BadLine, Endless, IsVerdict}
 
 -- The text is a whole schedule: the line of a team without a fault, then the lines of at most 100,000 steps, each of which
 -- may follow those before it, and no line more.
 abbrev pub IsGood : List (List ℕ) → Type 0
-IsGood lines = (team : Team) × (past : List Step) × Begins lines team past []
+IsGood lines = (team : Team) × (past : List Step) × IsVerdict lines (Whole team past)
 
 -- The first line is a team's, and this is the first fault that its team has.
 abbrev pub HasFaultyTeam : List (List ℕ) → TeamFault → Type 0
-HasFaultyTeam lines fault = (first : List ℕ) × (others : List (List ℕ)) × (team : Team) × (lines ≡ first ∷ others) × IsTeamLine first team × (fault_of team ≡ Some fault)
-
--- There is no line, or the first isn't a team's.
-abbrev pub HasNoTeamLine : List (List ℕ) → Type 0
-HasNoTeamLine lines = (first : List ℕ) (others : List (List ℕ)) (team : Team) → lines ≡ first ∷ others → IsTeamLine first team → ⊥
+HasFaultyTeam lines fault = IsVerdict lines (Faulty fault)
 
 -- The text doesn't start with a team's line; or its team has no fault, and one of the next 100,000 lines is no line of a step,
 -- or of a step that may not follow, while all lines between are of steps that may.
 abbrev pub HasBadLine : List (List ℕ) → Type 0
-HasBadLine lines = HasNoTeamLine lines
-    ⊎ ((team : Team) × (past : List Step) × (line : List ℕ) × (rest : List (List ℕ)) × (cause : Cause) × Begins lines team past (line ∷ rest) × (length past < step_limit) × IsBadLine team past line cause)
+HasBadLine lines = IsVerdict lines NoTeam ⊎ ((team : Team) × (past : List Step) × (cause : Cause) × IsVerdict lines (BadLine team past cause))
 
 -- The team has no fault and the next 100,000 lines are all of steps that may follow those before them, but there is a line
 -- more, whatever it is.
 abbrev pub HasTooMany : List (List ℕ) → Type 0
-HasTooMany lines = (team : Team) × (past : List Step) × (line : List ℕ) × (rest : List (List ℕ)) × Begins lines team past (line ∷ rest) × (length past ≡ step_limit)
+HasTooMany lines = (team : Team) × (past : List Step) × IsVerdict lines (Endless team past)
 
 -- the status tells which line can't be taken, by its number, and why
 abbrev pub IsBadSchedule : Status → Type 0

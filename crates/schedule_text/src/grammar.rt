@@ -133,255 +133,134 @@ mod tests {
     use std::alloc::{AllocError, Allocator};
     use tw_types::{Act, Atom, Order, Step, Team};
 
+    /// The greatest number of a line.
+    const LAST: u64 = 1_152_921_504_606_846_975;
+
     const TEAM: Team = Team {
-        n: 3,
-        line: 7,
-        ppm: 0,
-        eps: 1000,
-        delta: 10_000,
-        pace: 20_000,
-        decide: 10_000,
-        ring: 50_000,
-        slot: 100_000,
-        lease: 400_000,
-        quarantine: 1_104_003,
-        theta: 1_152_921_504_606_846_975,
+        theta: LAST,
+        ..Team::OF_THREE
     };
 
-    const TEAM_LINE: &[u8] =
-        b"team 3 7 0 1000 10000 20000 10000 50000 100000 400000 1104003 1152921504606846975";
-
-    /// A step of process 2 at team time 5, when its clock reads 17.
-    fn step(act: Act) -> Step {
-        Step {
-            t: 5,
-            who: 2,
-            h: 17,
-            act,
-        }
+    /// Whether a line is that of such a step of process 2 at team time 5, when its clock reads 17.
+    fn spells(line: &[u8], act: Act) -> bool {
+        is_step(line, 5, 2, 17, act)
     }
 
-    fn send(order: Order, atom: Atom, bytes: &[u8]) -> Step {
+    fn is_step(line: &[u8], t: u64, who: u8, h: u64, act: Act) -> bool {
+        read_step(&TEAM, line) == Ok(Step { t, who, h, act })
+    }
+
+    fn is_no_step(line: &[u8]) -> bool {
+        read_step(&TEAM, line) == Err(Grammar)
+    }
+
+    fn is_no_team(line: &[u8]) -> bool {
+        read_team(line) == Err(Grammar)
+    }
+
+    fn send(order: Order, atom: Atom, bytes: &[u8]) -> Act {
         let mut payload = ArrayVec::new();
         let _ = payload.try_extend_from_slice(bytes);
-        step(Act::Send {
+        Act::Send {
             order,
             atom,
             payload,
-        })
+        }
     }
 
-    #[test]
-    fn team_lines(rt: HostRuntime) {
-        let lines: [(&[u8], Option<Team>); 9] = [
-            (TEAM_LINE, Some(TEAM)),
-            (
-                b"team 3 7 0 1000 10000 20000 10000 50000 100000 400000 1104003 1152921504606846976",
-                None,
-            ),
-            (
-                b"team 256 7 0 1000 10000 20000 10000 50000 100000 400000 1104003 30000",
-                None,
-            ),
-            (
-                b"team 3 4294967296 0 1000 10000 20000 10000 50000 100000 400000 1104003 30000",
-                None,
-            ),
-            (
-                b"team 3 7 0 1000 10000 20000 10000 50000 100000 400000 1104003",
-                None,
-            ),
-            (
-                b"team 3 7 0 1000 10000 20000 10000 50000 100000 400000 1104003 30000 1",
-                None,
-            ),
-            (
-                b"teams 3 7 0 1000 10000 20000 10000 50000 100000 400000 1104003 30000",
-                None,
-            ),
-            (b"team", None),
-            (b"", None),
-        ];
-        for (line, team) in lines {
-            assert_eq!(rt; read_team(line), team.ok_or(Grammar));
-        }
+    fn spells_words() -> bool {
+        spells(b"5 2 17 first", Act::First)
+            && spells(b"5 2 17 again", Act::Again)
+            && spells(b"5 2 17 crash", Act::Crash)
+            && spells(b"5 2 17 tick", Act::Tick)
+            && spells(b"5 2 17 look", Act::Look)
+    }
+
+    fn spells_receipts() -> bool {
+        spells(b"5 2 17 recv 0", Act::Recv(0))
+            && spells(b"5 2 17 recv 1", Act::Recv(1))
+            && spells(b"5 2 17 recv 4294967295", Act::Recv(4_294_967_295))
+    }
+
+    fn spells_sends() -> bool {
+        let most = send(
+            Order::Total,
+            Atom::Weak,
+            b"\x01\x23\x45\x67\x89\xab\xcd\xef",
+        );
+        spells(
+            b"5 2 17 send unordered weak -",
+            send(Order::Unordered, Atom::Weak, b""),
+        ) && spells(
+            b"5 2 17 send total strong ff",
+            send(Order::Total, Atom::Strong, b"\xff"),
+        ) && spells(
+            b"5 2 17 send timed strict 00",
+            send(Order::Timed, Atom::Strict, b"\0"),
+        ) && spells(b"5 2 17 send total weak 0123456789abcdef", most)
+            && spells(
+                b"5 2 17 send unordered strong 0a0d20",
+                send(Order::Unordered, Atom::Strong, b"\n\r "),
+            )
+    }
+
+    fn spells_references() -> bool {
+        spells(b"5 2 17 ref 4 6", Act::Reference { lo: 4, hi: 6 })
+            && spells(b"5 2 17 ref 6 6", Act::Reference { lo: 6, hi: 6 })
+            && spells(
+                b"5 2 17 ref 0 1152921504606846975",
+                Act::Reference { lo: 0, hi: LAST },
+            )
+            && spells(
+                b"5 2 17 ref 1152921504606846975 1152921504606846975",
+                Act::Reference { lo: LAST, hi: LAST },
+            )
+    }
+
+    fn spells_numbers() -> bool {
+        is_step(b"0 0 0 first", 0, 0, 0, Act::First)
+            && is_step(b"1152921504606846975 1 9 tick", LAST, 1, 9, Act::Tick)
+            && is_step(b"9 1 1152921504606846975 crash", 9, 1, LAST, Act::Crash)
     }
 
     #[test]
     fn step_lines(rt: HostRuntime) {
-        let lines: [(&[u8], Step); 20] = [
-            (b"5 2 17 first", step(Act::First)),
-            (b"5 2 17 again", step(Act::Again)),
-            (b"5 2 17 crash", step(Act::Crash)),
-            (b"5 2 17 tick", step(Act::Tick)),
-            (b"5 2 17 look", step(Act::Look)),
-            (b"5 2 17 recv 0", step(Act::Recv(0))),
-            (b"5 2 17 recv 1", step(Act::Recv(1))),
-            (b"5 2 17 recv 4294967295", step(Act::Recv(4_294_967_295))),
-            (
-                b"5 2 17 send unordered weak -",
-                send(Order::Unordered, Atom::Weak, b""),
-            ),
-            (
-                b"5 2 17 send total strong ff",
-                send(Order::Total, Atom::Strong, b"\xff"),
-            ),
-            (
-                b"5 2 17 send timed strict 00",
-                send(Order::Timed, Atom::Strict, b"\0"),
-            ),
-            (
-                b"5 2 17 send total weak 0123456789abcdef",
-                send(
-                    Order::Total,
-                    Atom::Weak,
-                    b"\x01\x23\x45\x67\x89\xab\xcd\xef",
-                ),
-            ),
-            (
-                b"5 2 17 send unordered strong 0a0d20",
-                send(Order::Unordered, Atom::Strong, b"\n\r "),
-            ),
-            (b"5 2 17 ref 4 6", step(Act::Reference { lo: 4, hi: 6 })),
-            (b"5 2 17 ref 6 6", step(Act::Reference { lo: 6, hi: 6 })),
-            (
-                b"5 2 17 ref 0 1152921504606846975",
-                step(Act::Reference {
-                    lo: 0,
-                    hi: 1_152_921_504_606_846_975,
-                }),
-            ),
-            (
-                b"5 2 17 ref 1152921504606846975 1152921504606846975",
-                step(Act::Reference {
-                    lo: 1_152_921_504_606_846_975,
-                    hi: 1_152_921_504_606_846_975,
-                }),
-            ),
-            (
-                b"0 0 0 first",
-                Step {
-                    t: 0,
-                    who: 0,
-                    h: 0,
-                    act: Act::First,
-                },
-            ),
-            (
-                b"1152921504606846975 1 9 tick",
-                Step {
-                    t: 1_152_921_504_606_846_975,
-                    who: 1,
-                    h: 9,
-                    act: Act::Tick,
-                },
-            ),
-            (
-                b"9 1 1152921504606846975 crash",
-                Step {
-                    t: 9,
-                    who: 1,
-                    h: 1_152_921_504_606_846_975,
-                    act: Act::Crash,
-                },
-            ),
-        ];
-        for (line, step) in lines {
-            assert_eq!(rt; read_step(&TEAM, line), Ok(step));
-        }
+        assert!(rt; spells_words());
+        assert!(rt; spells_receipts());
+        assert!(rt; spells_sends());
+        assert!(rt; spells_references());
+        assert!(rt; spells_numbers());
     }
 
     #[test]
     fn lines_of_no_step(rt: HostRuntime) {
-        let lines: [&[u8]; 84] = [
-            b"1152921504606846976 1 9 look",
-            b"10000000000000000000 1 9 look",
-            b"18446744073709551617 1 9 look",
-            b"9 1 1152921504606846976 look",
-            b"5 3 9 look",
-            b"5 3 9 send total strong ff",
-            b"5 258 9 look",
-            b"5 2 17 recv",
-            b"5 2 17 recv ",
-            b"5 2 17 recv 4294967296",
-            b"5 2 17 recv 4294967297",
-            b"5 2 17 recv 01",
-            b"5 2 17 recv 1 1",
-            b"5 2 17 send",
-            b"5 2 17 send total",
-            b"5 2 17 send total strong",
-            b"5 2 17 send total strong ",
-            b"5 2 17 send total strong f",
-            b"5 2 17 send total strong fff",
-            b"5 2 17 send total strong FF",
-            b"5 2 17 send total strong fF",
-            b"5 2 17 send total strong Ff",
-            b"5 2 17 send total strong fg",
-            b"5 2 17 send total strong `f",
-            b"5 2 17 send total strong 0/",
-            b"5 2 17 send total strong :0",
-            b"5 2 17 send total strong 0x",
-            b"5 2 17 send total strong -ff",
-            b"5 2 17 send total strong ff-",
-            b"5 2 17 send total strong --",
-            b"5 2 17 send total strong f -",
-            b"5 2 17 send total strong ff ",
-            b"5 2 17 send total strong ff ff",
-            b"5 2 17 send strong total ff",
-            b"5 2 17 send total ff strong",
-            b"5 2 17 send Total strong ff",
-            b"5 2 17 send total Strong ff",
-            b"5 2 17 send totals strong ff",
-            b"5 2 17 send total stron ff",
-            b"5 2 17 send total  strong ff",
-            b"5 2 17 ref 7 6",
-            b"5 2 17 ref 1 0",
-            b"5 2 17 ref 6",
-            b"5 2 17 ref",
-            b"5 2 17 ref 4 6 8",
-            b"5 2 17 ref 4 1152921504606846976",
-            b"5 2 17 ref 04 6",
-            b"5 2 17 ref -4 6",
-            b"5 2 17 first ",
-            b"5 2 17 first first",
-            b"5 2 17 tick 1",
-            b"5 2 17 look 1",
-            b"5 2 17 look -",
-            b"5 2 17 firs",
-            b"5 2 17 firsts",
-            b"5 2 17 First",
-            b"5 2 17 AGAIN",
-            b"5 2 17 reference 4 6",
-            b"5 2 17 receive 1",
-            b"5 2 17 stop",
-            b"5 2 17 look\r",
-            b"5 2 17 look\n",
-            b"5 2 17\tlook",
-            b"5  2 17 look",
-            b" 5 2 17 look",
-            b"+5 2 17 look",
-            b"-5 2 17 look",
-            b"05 2 17 look",
-            b"5 00 17 look",
-            b"5 2 017 look",
-            b"5.0 2 17 look",
-            b"5,2,17,look",
-            b"5 2 17 ",
-            b"5 2 17",
-            b"5 2",
-            b"5",
-            b"",
-            b" ",
-            b"look",
-            b"# look",
-            b"5 2 17 look\xe9",
-            b"5 2 1\x007 look",
-            b"5 2 17 look\0",
-            TEAM_LINE,
-        ];
-        for line in lines {
-            assert_eq!(rt; read_step(&TEAM, line), Err(Grammar));
-        }
+        let refused = is_no_step(b"1152921504606846976 1 9 look")
+            && is_no_step(b"5 3 9 look")
+            && is_no_step(b"5 2 17 recv 4294967296")
+            && is_no_step(b"5 2 17 send total strong f")
+            && is_no_step(b"5 2 17 send total strong FF")
+            && is_no_step(b"5 2 17 ref 7 6")
+            && is_no_step(b"5 2 17 first ")
+            && is_no_step(b"5 2 17 stop")
+            && is_no_step(b"5 2 17 look\n")
+            && is_no_step(b"05 2 17 look")
+            && is_no_step(b"")
+            && is_no_step(b"5 2 17 look\0");
+        assert!(rt; refused);
+    }
+
+    #[test]
+    fn team_lines(rt: HostRuntime) {
+        let line =
+            b"team 3 7 0 1000 10000 20000 10000 50000 100000 400000 1104003 1152921504606846975";
+        assert!(rt; read_team(line) == Ok(TEAM));
+        let refused = is_no_team(
+            b"team 256 7 0 1000 10000 20000 10000 50000 100000 400000 1104003 30000",
+        ) && is_no_team(
+            b"team 3 4294967296 0 1000 10000 20000 10000 50000 100000 400000 1104003 30000",
+        ) && is_no_team(b"team 3 7 0 1000 10000 20000 10000 50000 100000 400000 1104003")
+            && is_no_team(b"");
+        assert!(rt; refused);
     }
 
     /// The step that a line with this many digits of a payload spells.
@@ -398,19 +277,20 @@ mod tests {
 
     #[test]
     fn long_payloads(rt: HostRuntime) -> Result<(), AllocError> {
-        let step = send(Order::Timed, Atom::Strict, &[0xaa; 1024]);
-        assert_eq!(rt; read_digits(rt.alloc(), 2048)?, Ok(step));
-        for digits in [2047, 2049, 2050, 4096] {
-            assert_eq!(rt; read_digits(rt.alloc(), digits)?, Err(Grammar));
-        }
+        let step = Step {
+            t: 5,
+            who: 2,
+            h: 17,
+            act: send(Order::Timed, Atom::Strict, &[0xaa; 1024]),
+        };
+        assert!(rt; read_digits(rt.alloc(), 2048)? == Ok(step));
+        assert!(rt; read_digits(rt.alloc(), 2050)? == Err(Grammar));
         Ok(())
     }
 
     #[test]
     fn long_lines(rt: HostRuntime) {
-        assert_eq!(rt; read_step(&TEAM, &[b'7'; 9000]), Err(Grammar));
-        assert_eq!(rt; read_step(&TEAM, &[b'7'; 9001]), Err(Grammar));
-        assert_eq!(rt; read_team(&[b' '; 9000]), Err(Grammar));
-        assert_eq!(rt; read_team(&[b' '; 9001]), Err(Grammar));
+        assert!(rt; is_no_step(&[b'7'; 9001]));
+        assert!(rt; is_no_team(&[b' '; 9001]));
     }
 }

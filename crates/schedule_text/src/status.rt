@@ -7,7 +7,7 @@ const USAGE: &str =
     "usage: timewheel replay | rerun | node WHO first|again TURNS | demo SEED STEPS";
 
 /// A line of text, as bytes.
-#[derive(Debug, Drop)]
+#[derive(Drop)]
 pub struct Text {
     bytes: Vec<u8>,
 }
@@ -21,7 +21,7 @@ impl Model for Text {
 }
 
 /// How a command ended.
-#[derive(Debug, Drop)]
+#[derive(Drop)]
 pub enum Status {
     /// All was done.
     Ok,
@@ -162,58 +162,69 @@ mod tests {
         Ok(Text::new(Vec::from_slice(alloc, bytes)?))
     }
 
+    /// Whether a status has this text.
+    fn prints(alloc: Global, status: Status, text: &str) -> bool {
+        match format!(in alloc; "{status}") {
+            Ok(printed) => printed.as_str() == text,
+            Err(_) => false,
+        }
+    }
+
+    fn has_fault(alloc: Global, fault: TeamFault, text: &str) -> bool {
+        prints(alloc, Status::BadTeam(fault), text)
+    }
+
+    fn has_cause(alloc: Global, line: u64, cause: Cause, text: &str) -> bool {
+        prints(alloc, Status::BadSchedule(line, cause), text)
+    }
+
     #[test]
-    fn each_status_has_its_text(rt: HostRuntime) -> Result<(), AllocError> {
+    fn faults_of_teams_have_their_words(rt: HostRuntime) {
+        let alloc = rt.alloc();
+        let all = has_fault(alloc, TeamFault::Size, "bad team: size")
+            && has_fault(alloc, TeamFault::Drift, "bad team: drift")
+            && has_fault(alloc, TeamFault::Eps, "bad team: eps")
+            && has_fault(alloc, TeamFault::Slot, "bad team: slot")
+            && has_fault(alloc, TeamFault::Pace, "bad team: pace")
+            && has_fault(alloc, TeamFault::Lease, "bad team: lease")
+            && has_fault(alloc, TeamFault::Quarantine, "bad team: quarantine")
+            && has_fault(alloc, TeamFault::Range, "bad team: range");
+        assert!(rt; all);
+    }
+
+    #[test]
+    fn causes_have_their_words(rt: HostRuntime) {
+        let alloc = rt.alloc();
+        let all = has_cause(alloc, 1, Cause::Grammar, "line 1: grammar")
+            && has_cause(alloc, 2, Cause::Time, "line 2: time")
+            && has_cause(alloc, 3, Cause::Drift, "line 3: drift")
+            && has_cause(alloc, 4, Cause::Start, "line 4: start")
+            && has_cause(alloc, 10, Cause::NotRunning, "line 10: not running")
+            && has_cause(alloc, 11, Cause::NoDatagram, "line 11: no datagram")
+            && has_cause(alloc, 100_001, Cause::Reference, "line 100001: reference");
+        assert!(rt; all);
+    }
+
+    #[test]
+    fn other_statuses_have_their_texts(rt: HostRuntime) -> Result<(), AllocError> {
         let alloc = rt.alloc();
         let recorded = line(alloc, b"2 0 5 6 0 0.0 0 0 look")?;
-        let texts = [
-            (Status::Ok, ""),
-            (
+        let differs = Status::Differs(7, recorded, line(alloc, b"")?);
+        let all = prints(alloc, Status::Ok, "")
+            && prints(
+                alloc,
                 Status::Usage,
                 "usage: timewheel replay | rerun | node WHO first|again TURNS | demo SEED STEPS",
-            ),
-            (Status::BadTeam(TeamFault::Size), "bad team: size"),
-            (Status::BadTeam(TeamFault::Drift), "bad team: drift"),
-            (Status::BadTeam(TeamFault::Eps), "bad team: eps"),
-            (Status::BadTeam(TeamFault::Slot), "bad team: slot"),
-            (Status::BadTeam(TeamFault::Pace), "bad team: pace"),
-            (Status::BadTeam(TeamFault::Lease), "bad team: lease"),
-            (
-                Status::BadTeam(TeamFault::Quarantine),
-                "bad team: quarantine",
-            ),
-            (Status::BadTeam(TeamFault::Range), "bad team: range"),
-            (Status::BadSchedule(1, Cause::Grammar), "line 1: grammar"),
-            (Status::BadSchedule(2, Cause::Time), "line 2: time"),
-            (Status::BadSchedule(3, Cause::Drift), "line 3: drift"),
-            (Status::BadSchedule(4, Cause::Start), "line 4: start"),
-            (
-                Status::BadSchedule(10, Cause::NotRunning),
-                "line 10: not running",
-            ),
-            (
-                Status::BadSchedule(11, Cause::NoDatagram),
-                "line 11: no datagram",
-            ),
-            (
-                Status::BadSchedule(100_001, Cause::Reference),
-                "line 100001: reference",
-            ),
-            (Status::TooLong, "input too long"),
-            (Status::ReadFault, "read failed"),
-            (Status::WriteFault, "write failed"),
-            (Status::LinkFault, "link failed"),
-            (
-                Status::Differs(7, recorded, line(alloc, b"")?),
-                "line 7 differs: recorded 2 0 5 6 0 0.0 0 0 look, computed ",
-            ),
-            (Status::ClockSpent, "clock spent"),
-            (Status::WantOfMemory, "out of memory"),
-        ];
-        for (status, text) in texts {
-            let printed = format!(in alloc; "{status}")?;
-            assert_eq!(rt; printed.as_str(), text);
-        }
+            )
+            && prints(alloc, Status::TooLong, "input too long")
+            && prints(alloc, Status::ReadFault, "read failed")
+            && prints(alloc, Status::WriteFault, "write failed")
+            && prints(alloc, Status::LinkFault, "link failed")
+            && prints(alloc, Status::ClockSpent, "clock spent")
+            && prints(alloc, Status::WantOfMemory, "out of memory");
+        assert!(rt; all);
+        let text = "line 7 differs: recorded 2 0 5 6 0 0.0 0 0 look, computed ";
+        assert!(rt; prints(alloc, differs, text));
         Ok(())
     }
 }

@@ -1,1 +1,2 @@
 pub mod OneWord
+mod Settled

@@ -3,21 +3,20 @@ use std::alloc::Global;
 use std::test::Fail;
 use tw_io::{BytesIn, BytesOut, ListClock, Sink, Source, SteadyIn, SteadyLink, SteadyOut};
 
-mod causes;
 mod commands;
 mod faults;
-mod lines;
-mod long;
-mod teams;
 
 /// A sound team of three processes with exact clocks.
 const TEAM: &str = "team 3 7 0 1000 10000 20000 10000 50000 100000 400000 1104003 30000";
 
-/// More than any text that these tests write, but for the long ones.
+/// More than any text that these tests write.
 const ROOM: usize = 4096;
 
 /// A start of process 0, a reference and a look, of that team.
 const STEPS: &str = "5 0 5 first\n5 0 5 ref 5 5\n6 0 6 look\n";
+
+/// The row of the first of them.
+const START: &str = "1 0 5 - 0 0.0 0 0 start\n";
 
 /// The rows of those steps.
 const ROWS: &str = "1 0 5 - 0 0.0 0 0 start\n2 0 5 5 0 0.0 0 0 done\n3 0 5 6 0 0.0 0 0 look\n";
@@ -37,14 +36,6 @@ fn status<S: Source, K: Sink>(
     let mut link = SteadyLink::new(alloc, &[], &[])?;
     let status = run(alloc, &texts, source, sink, &mut clock, &mut link);
     Ok(format!(in alloc; "{status}")?)
-}
-
-/// The status of a replay, and what it wrote.
-fn replayed(alloc: Global, text: &str) -> Result<(String, Vec<u8>), Fail> {
-    let mut source = BytesIn::new(alloc, text.as_bytes(), &[])?;
-    let mut sink = BytesOut::new(alloc, ROOM, &[])?;
-    let status = status(alloc, &["replay"], &mut source, &mut sink)?;
-    Ok((status, Vec::from_slice(alloc, sink.bytes())?))
 }
 
 /// A team's line and the lines of its steps.

@@ -10,6 +10,7 @@ pub mod History
 pub mod Induction
 pub mod Intervals
 pub mod Readings
+pub mod Parts
 pub mod Steps
 pub mod Timings
 pub mod ClockLaw
@@ -18,7 +19,10 @@ mod Worked
 mod ClockWorked
 mod Decided
 mod SafeTests
+mod SafeWords
 mod SafeTables
+mod SafeLists
+mod Edges
 mod RowWords
 mod RowLines
 mod RowFields

@@ -5,17 +5,18 @@ use Rattle.tw_types.specs.declared.team.Team.{Team}
 use Rattle.tw_types.specs.declared.step.Step.{Step}
 use Rattle.tw_types.specs.declared.step.Act.{Act}
 use Rattle.tw_types.specs.declared.step.Act.TheVariants.{First, Again, Crash, Tick, Recv, Send, Reference, Look}
-use Rattle.tw_types.specs.declared.datagram.Datagram.{Datagram}
+use Rattle.tw_types.specs.Numbered.{numbered}
 use Rattle.tw_types.specs.declared.outputs.Outputs.{Outputs}
 use Rattle.tw_types.specs.Process.{Process}
 use Rattle.tw_types.specs.Row.{Row, Update, Pass}
 use Rattle.tw_machine.specs.Event.{Event}
 use Rattle.tw_machine.specs.Step.{step}
-use Rattle.tw_machine.specs.Admissible.{sent_as}
+use Rattle.tw_machine.specs.Dispatches.{Dispatch}
 use Rattle.tw_machine.specs.World.{receive, deed, deed_in, world}
 use Rattle.tw_machine.specs.Rows.{columns, row_of, rows_of}
 use Rattle.tw_machine.specs.Places.{Each}
 use Rattle.tw_machine.specs.SafeRows.{EachUp, delivered, timed, SafeRows}
+use Rattle.tw_machine.proofs.Steps.{step_passes, step_earlies}
 
 -- a row that isn't up and delivers and shows nothing
 pub record IsQuiet (r : Row) : Type 0 where
@@ -30,23 +31,20 @@ record DeliversNothing (out : Outputs) : Type 0 where
   earlies : out.earlies ≡ []
 
 step_delivers_nothing : (team : Team) (h : ℕ) (e : Event) (p : Process) → DeliversNothing (step team h e p).out
-unfolding step
-step_delivers_nothing team h Event.Tick p = record { passes = refl; earlies = refl }
-step_delivers_nothing team h (Event.Packet bytes) p = record { passes = refl; earlies = refl }
-step_delivers_nothing team h (Event.Reference lo hi) p = record { passes = refl; earlies = refl }
+step_delivers_nothing team h e p = record { passes = step_passes team h e p; earlies = step_earlies team h e p }
 
-received : (team : Team) (h : ℕ) (o : Option (ℕ × Datagram)) (p : Process) → DeliversNothing (receive team h o p).out
+received : (team : Team) (h : ℕ) (o : Option Dispatch) (p : Process) → DeliversNothing (receive team h o p).out
 received team h None p = record { passes = refl; earlies = refl }
-received team h (Some d) p = step_delivers_nothing team h (Event.Packet (Ok d.1)) p
+received team h (Some d) p = step_delivers_nothing team h (Event.Packet (Ok d.datagram)) p
 
-deed_delivers_nothing : (team : Team) (who h : ℕ) (sent : List (ℕ × Datagram)) (act : Act) (o : Option Process) → DeliversNothing (deed team who h sent act o).out
+deed_delivers_nothing : (team : Team) (who h : ℕ) (sent : List Dispatch) (act : Act) (o : Option Process) → DeliversNothing (deed team who h sent act o).out
 deed_delivers_nothing team who h sent First o = record { passes = refl; earlies = refl }
 deed_delivers_nothing team who h sent Again o = record { passes = refl; earlies = refl }
 deed_delivers_nothing team who h sent Crash o = record { passes = refl; earlies = refl }
 deed_delivers_nothing team who h sent Tick None = record { passes = refl; earlies = refl }
 deed_delivers_nothing team who h sent Tick (Some p) = step_delivers_nothing team h Event.Tick p
 deed_delivers_nothing team who h sent (Recv d) None = record { passes = refl; earlies = refl }
-deed_delivers_nothing team who h sent (Recv d) (Some p) = received team h (sent_as d sent) p
+deed_delivers_nothing team who h sent (Recv d) (Some p) = received team h (numbered d sent) p
 deed_delivers_nothing team who h sent (Send order atom payload) None = record { passes = refl; earlies = refl }
 deed_delivers_nothing team who h sent (Send order atom payload) (Some p) = record { passes = refl; earlies = refl }
 deed_delivers_nothing team who h sent (Reference lo hi) None = record { passes = refl; earlies = refl }

@@ -13,23 +13,23 @@ use Rattle.tw_types.specs.declared.step.Step.{Step}
 use Rattle.tw_types.specs.Trips.{trip, trip_of}
 use Rattle.tw_types.specs.Process.{Identity, Timing, Process}
 use Rattle.tw_num.specs.declared.interval.Interval.{Interval}
+use Rattle.tw_num.specs.declared.moment.Moment.{Moment}
 use Rattle.tw_num.specs.Elapsed.{MayElapse}
 use Rattle.tw_num.specs.Interval.{Holds, aged}
-use Rattle.tw_num.specs.Clock.{Clock, Given, fresh, aged_at, shared_at, interval_at, reading_at, or_before, after_read, refusal, after_given}
+use Rattle.tw_num.specs.Clock.{Clock, Given, fresh, aged_at, shared_at, interval_at, reading_at, moment_at, or_before, after_read, refusal, after_given}
 use Rattle.tw_num.specs.Rate.{RoundTrip, echo_bound, IsRoundTrip}
-use Rattle.tw_num.proofs.Delays.{echo_bounds, heard_holds}
+use Rattle.tw_num.proofs.Delays.{echo_bounds, delayed_holds}
 use Rattle.tw_machine.specs.Event.{Event}
 use Rattle.tw_types.specs.declared.datagram.WireFault.TheVariants.{Kind}
 use Rattle.tw_machine.specs.Packet.{is_taken, is_stranger, admitted}
-use Rattle.tw_machine.specs.Hearing.{newer, noted, trip_bound, both, told, given, is_refused, read}
-use Rattle.tw_machine.specs.Beating.{sendable, head_to}
-use Rattle.tw_machine.specs.Step.{Heard, heard, packet_heard}
-use Rattle.tw_machine.specs.History.{Dispatch, sent_at, dispatches}
+use Rattle.tw_machine.specs.Hearing.{newer, noted, trip_bound, both, told, given, is_refused, read, Learnt, unless_dropped, learn_packet, learn}
+use Rattle.tw_machine.specs.Sending.{sendable, datagram_to}
+use Rattle.tw_machine.specs.Dispatches.{Dispatch, sent_at}
+use Rattle.tw_machine.specs.World.{world}
 use Rattle.tw_machine.specs.ClockLaw.{MayRead, Covers, IsNear}
-use Rattle.tw_machine.proofs.Tables.{equal_numbers}
+use Rattle.tw_machine.proofs.Tables.{equal_numbers, at_number}
 use Rattle.tw_machine.proofs.Intervals.{aged_holds, now_holds, shared_holds, no_clash, reading_near}
 use Rattle.tw_machine.proofs.Readings.{HasRead, has_just_read, not_later, read_before, since}
-use Rattle.tw_machine.proofs.History.{at_number}
 use Rattle.tw_machine.proofs.Induction.{Brings}
 
 -- The invariant of a running process: nothing was refused, each given interval holds team time whenever the process may
@@ -118,7 +118,7 @@ pub record WasSent (ppm : ℕ) (past : List Step) (d : Dispatch) : Type 0 where
   pub echoed : IfSome d.datagram.head.echo (IsAnswer ppm past d)
 
 abbrev pub AllSent : Team → List Step → Type 0
-AllSent team past = AllByRecursion (WasSent team.ppm past) (dispatches team past)
+AllSent team past = AllByRecursion (WasSent team.ppm past) (world team past).sent
 
 -- a later step keeps all that
 
@@ -164,7 +164,7 @@ told_holds ppm past s d small may to was =
     go : (i : Option Interval) (bound : Option ℕ) → IfSome i (λ i. Holds i d.at) → IfSome bound (Covers s d) → d.at ≤ s.t → IfSome (both i bound) (λ i. Holds i s.t)
     go None bound i covers before = tt
     go (Some i) None holds covers before = tt
-    go (Some i) (Some bound) holds covers before = heard_holds d.at s.t bound i before covers holds
+    go (Some i) (Some bound) holds covers before = delayed_holds d.at s.t bound i before covers holds
 
 -- what is heard keeps the invariant
 
@@ -201,12 +201,12 @@ noted_stamp past who from e t new old q x = go (nat_eq from q) refl
         let same : from ≡ q = equal_numbers from q test in
         newer_noted past who q (t.heard q) e x (subst (λ i. IsNoted past who i e) same new) (all_noted past who q (t.heard q) (old q)) (same_Some (newer (t.heard q) e) x is)
 
--- what a process knows after an event was heard, and that nothing is refused as contradicting what it knows
-pub record HeardWell (team : Team) (past : List Step) (s : Step) (k : Heard) : Type 0 where
+-- what a process knows once an event told what it knows, and that nothing is refused as contradicting that
+pub record LearntWell (team : Team) (past : List Step) (s : Step) (k : Learnt) : Type 0 where
   pub timing : TimingInvariant team (s ∷ past) s.who k.timing
-  pub not_disjoint : k.dropped ≢ Some Reason.Disjoint
+  pub not_disjoint : k.packet ≢ Err Reason.Disjoint
 
-taken_well : (team : Team) (past : List Step) (s : Step) (d : Dispatch) (t : Timing) → team.ppm ≤ 1000 → MayRead team.ppm s.who past s.t s.h → d.to ≡ s.who → WasSent team.ppm past d → TimingInvariant team past s.who t → HeardWell team past s (packet_heard team s.h (Ok d.datagram) t)
+taken_well : (team : Team) (past : List Step) (s : Step) (d : Dispatch) (t : Timing) → team.ppm ≤ 1000 → MayRead team.ppm s.who past s.t s.h → d.to ≡ s.who → WasSent team.ppm past d → TimingInvariant team past s.who t → LearntWell team past s (learn_packet team s.h (Ok d.datagram) t)
 taken_well team past s d t small may to was k = record {
   timing = record {
     reads = given_still team past s (told team.ppm s.h head) u small may holds k.reads;
@@ -228,31 +228,31 @@ taken_well team past s d t small may to was k = record {
     stamp = record { asked = d.at; noted = s.t; theirs = inr was.stamped; own = has_just_read past s; after = not_later past head.from s.t d.at head.sent may.time was.stamped }
 
 -- of what isn't admitted nothing is heard
-turned_away : (team : Team) (past : List Step) (s : Step) (reason : Reason) (t : Timing) → TimingInvariant team past s.who t → reason ≢ Reason.Disjoint → HeardWell team past s (packet_heard team s.h (Err reason) t)
-turned_away team past s reason t k other = record { timing = timed_still team past s s.who t k; not_disjoint = λ e. other (same_Some reason Reason.Disjoint e) }
+turned_away : (team : Team) (past : List Step) (s : Step) (reason : Reason) (t : Timing) → TimingInvariant team past s.who t → reason ≢ Reason.Disjoint → LearntWell team past s (learn_packet team s.h (Err reason) t)
+turned_away team past s reason t k other = record { timing = timed_still team past s s.who t k; not_disjoint = λ e. other (cc) }
 
-packet_well : (team : Team) (past : List Step) (s : Step) (d : Dispatch) (t : Timing) → team.ppm ≤ 1000 → MayRead team.ppm s.who past s.t s.h → d.to ≡ s.who → WasSent team.ppm past d → TimingInvariant team past s.who t → HeardWell team past s (packet_heard team s.h (admitted team.n s.who (Ok d.datagram)) t)
+packet_well : (team : Team) (past : List Step) (s : Step) (d : Dispatch) (t : Timing) → team.ppm ≤ 1000 → MayRead team.ppm s.who past s.t s.h → d.to ≡ s.who → WasSent team.ppm past d → TimingInvariant team past s.who t → LearntWell team past s (learn_packet team s.h (admitted team.n s.who (Ok d.datagram)) t)
 packet_well team past s d t small may to was k = go (is_taken d.datagram.body) (is_stranger team.n s.who d.datagram.head)
   where
-    go : (taken stranger : Bool) → HeardWell team past s (packet_heard team s.h (cond taken (cond stranger (Err Reason.Stranger) (Ok d.datagram)) (Err (Reason.Wire Kind))) t)
+    go : (taken stranger : Bool) → LearntWell team past s (learn_packet team s.h (cond taken (cond stranger (Err Reason.Stranger) (Ok d.datagram)) (Err (Reason.Wire Kind))) t)
     go true true = turned_away team past s Reason.Stranger t k (λ e. cc)
     go true false = taken_well team past s d t small may to was k
     go false stranger = turned_away team past s (Reason.Wire Kind) t k (λ e. cc)
 
-reference_well : (team : Team) (past : List Step) (s : Step) (i : Interval) (t : Timing) → team.ppm ≤ 1000 → MayRead team.ppm s.who past s.t s.h → Holds i s.t → TimingInvariant team past s.who t → HeardWell team past s (record { timing = given team.ppm s.h (Some i) t; dropped = is_refused team.ppm s.h (Some i) t })
+reference_well : (team : Team) (past : List Step) (s : Step) (i : Interval) (t : Timing) → team.ppm ≤ 1000 → MayRead team.ppm s.who past s.t s.h → Holds i s.t → TimingInvariant team past s.who t → LearntWell team past s (record { timing = given team.ppm s.h (Some i) t; packet = unless_dropped (is_refused team.ppm s.h (Some i) t) None })
 reference_well team past s i t small may holds k = record {
   timing = record { reads = given_clock team past s i t.clock small may holds k.reads; noted = λ q e found. noted_still past s s.who q e (k.noted q e found) };
   not_disjoint = rw (none_refused team past s (Some i) t small may holds k.reads) (λ e. cc);
 }
 
 -- whatever event a step brings
-pub heard_well : (team : Team) (past : List Step) (s : Step) (e : Event) (t : Timing) → team.ppm ≤ 1000 → MayRead team.ppm s.who past s.t s.h → AllSent team past → Brings team past s e → TimingInvariant team past s.who t → HeardWell team past s (heard team s.who s.h e t)
-heard_well team past s Event.Tick t small may sent brings k = record { timing = timed_still team past s s.who t k; not_disjoint = λ e. cc }
-heard_well team past s (Event.Packet (Err fault)) t small may sent brings k = absurd brings
-heard_well team past s (Event.Packet (Ok d)) t small may sent brings k =
-    let was : WasSent team.ppm past brings.dispatch = at_number (WasSent team.ppm past) (dispatches team past) brings.receipt.number brings.dispatch sent brings.receipt.sent in
-    subst (λ (x : Datagram). HeardWell team past s (packet_heard team s.h (admitted team.n s.who (Ok x)) t)) (sym brings.is) (packet_well team past s brings.dispatch t small may brings.to was k)
-heard_well team past s (Event.Reference lo hi) t small may sent brings k = reference_well team past s (record { lo = lo; hi = hi }) t small may brings.1 k
+pub learnt_well : (team : Team) (past : List Step) (s : Step) (e : Event) (t : Timing) → team.ppm ≤ 1000 → MayRead team.ppm s.who past s.t s.h → AllSent team past → Brings team past s e → TimingInvariant team past s.who t → LearntWell team past s (learn team s.who s.h e t)
+learnt_well team past s Event.Tick t small may sent brings k = record { timing = timed_still team past s s.who t k; not_disjoint = λ e. cc }
+learnt_well team past s (Event.Packet (Err fault)) t small may sent brings k = absurd brings
+learnt_well team past s (Event.Packet (Ok d)) t small may sent brings k =
+    let was : WasSent team.ppm past brings.dispatch = at_number (WasSent team.ppm past) (world team past).sent brings.receipt.number brings.dispatch sent brings.receipt.sent in
+    subst (λ (x : Datagram). LearntWell team past s (learn_packet team s.h (admitted team.n s.who (Ok x)) t)) (sym brings.is) (packet_well team past s brings.dispatch t small may brings.to was k)
+learnt_well team past s (Event.Reference lo hi) t small may sent brings k = reference_well team past s (record { lo = lo; hi = hi }) t small may brings.1 k
 
 -- a reading keeps the invariant
 pub read_still : (team : Team) (past : List Step) (s : Step) (t : Timing) → MayRead team.ppm s.who (s ∷ past) s.t s.h → TimingInvariant team (s ∷ past) s.who t → TimingInvariant team (s ∷ past) s.who (read team s.h t)
@@ -268,18 +268,26 @@ sendable_holds t (Some i) k = go (nat_lt i.hi (2 ^ 61))
     go true = k
     go false = tt
 
-answers : (team : Team) (past : List Step) (s : Step) (me : Identity) (t : Timing) (to : ℕ) (body : Body) (o : Option Echo) → t.heard to ≡ o → MayRead team.ppm s.who (s ∷ past) s.t s.h → TimingInvariant team (s ∷ past) s.who t →
-    IfSome o (IsAnswer team.ppm (s ∷ past) (sent_at s.t (to, record { head = head_to team s.h me t to; body = body })))
-answers team past s me t to body None found may k = tt
-answers team past s me t to body (Some e) found may k =
+answers : (team : Team) (past : List Step) (s : Step) (me : Identity) (t : Timing) (to : ℕ) (body : Body) (now : Moment) (o : Option Echo) → t.heard to ≡ o → now.h ≡ s.h → MayRead team.ppm s.who (s ∷ past) s.t s.h → TimingInvariant team (s ∷ past) s.who t →
+    IfSome o (IsAnswer team.ppm (s ∷ past) (sent_at s.t (datagram_to now me t body to)))
+answers team past s me t to body now None found at may k = tt
+answers team past s me t to body now (Some e) found at may k =
     let known = k.noted to e found in
     let from = since team.ppm s.who (s ∷ past) s.t s.h known.noted e.b may known.own in
-    record { asked = known.asked; noted = known.noted; theirs = known.theirs; after = known.after; before = from.not_before; waited = from.ticks }
+    record { asked = known.asked; noted = known.noted; theirs = known.theirs; after = known.after; before = from.not_before; waited = rw at from.ticks }
 
-pub sent_well : (team : Team) (past : List Step) (s : Step) (me : Identity) (t : Timing) (to : ℕ) (body : Body) → me.who ≡ s.who → MayRead team.ppm s.who (s ∷ past) s.t s.h → TimingInvariant team (s ∷ past) s.who t →
-    WasSent team.ppm (s ∷ past) (sent_at s.t (to, record { head = head_to team s.h me t to; body = body }))
-sent_well team past s me t to body is may k = record {
-  stamped = subst (λ who. HasRead (s ∷ past) who s.t s.h) (sym is) (has_just_read past s);
-  told = sendable_holds s.t (interval_at team.ppm s.h t.clock) (clock_holds team s.who (s ∷ past) t.clock s.t s.h k.reads may);
-  echoed = answers team past s me t to body (t.heard to) refl may k;
+-- what a process's clock tells at its step
+pub record TellsWell (s : Step) (now : Moment) : Type 0 where
+  pub reads : now.h ≡ s.h
+  pub holds : IfSome now.interval (λ i. Holds i s.t)
+
+pub moment_well : (team : Team) (past : List Step) (s : Step) (c : Clock) → MayRead team.ppm s.who (s ∷ past) s.t s.h → ClockInvariant team s.who (s ∷ past) c → TellsWell s (moment_at team.ppm team.eps s.h c)
+moment_well team past s c may k = record { reads = refl; holds = clock_holds team s.who (s ∷ past) c s.t s.h k may }
+
+pub sent_well : (team : Team) (past : List Step) (s : Step) (me : Identity) (t : Timing) (now : Moment) (to : ℕ) (body : Body) → me.who ≡ s.who → TellsWell s now → MayRead team.ppm s.who (s ∷ past) s.t s.h → TimingInvariant team (s ∷ past) s.who t →
+    WasSent team.ppm (s ∷ past) (sent_at s.t (datagram_to now me t body to))
+sent_well team past s me t now to body is tells may k = record {
+  stamped = rw (is, tells.reads) (has_just_read past s);
+  told = sendable_holds s.t now.interval tells.holds;
+  echoed = answers team past s me t to body now (t.heard to) refl tells.reads may k;
 }

@@ -8,6 +8,8 @@ use Rattle.tw_types.specs.declared.step.Act.{Act}
 use Rattle.tw_types.specs.declared.step.Step.{Step}
 use Rattle.tw_types.specs.declared.step.Act.TheVariants.{First, Tick, Recv, Reference, Look}
 use Rattle.tw_machine.specs.Admissible.{cause_of}
+use Rattle.tw_machine.specs.Rules.{kind_rule}
+use Rattle.tw_machine.specs.Duties.{duties}
 use Rattle.tw_machine.specs.Step.{step}
 use Rattle.tw_machine.specs.Rows.{rows_of}
 use Rattle.tw_machine.specs.RowText.{text_of}
@@ -57,5 +59,5 @@ abbrev beats : List Step
 beats = at 20510 1 20510 (Recv 5) ∷ at 20010 0 20010 Tick ∷ at 1010 0 1010 (Recv 3) ∷ at 510 1 510 (Recv 1) ∷ at 10 0 10 Tick ∷ at 10 0 10 (Reference 10 10) ∷ at 5 1 5 First ∷ at 5 0 5 First ∷ []
 
 beats_rows : text_of (rows_of team_a beats) ≡ codes "1 0 5 - 0 0.0 0 0 start\n2 1 5 - 0 0.0 0 0 start\n3 0 5 10 0 0.0 0 0 done\n4 0 5 10 0 0.0 0 0 done\n+ send 1 to 1 sync\n+ send 2 to 2 sync\n5 1 5 - 0 0.0 0 0 done\n+ send 3 to 0 sync\n+ send 4 to 2 sync\n6 0 5 1010 0 0.0 0 0 done\n7 0 5 20010 0 0.0 0 0 done\n+ send 5 to 1 sync\n+ send 6 to 2 sync\n8 1 5 20511 0 0.0 0 0 done\n+ send 7 to 0 sync\n+ send 8 to 2 sync\n"
-unfolding digits step
+unfolding digits step duties kind_rule
 beats_rows = refl

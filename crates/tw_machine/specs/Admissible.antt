@@ -1,13 +1,14 @@
 -- Which steps may follow a schedule. Each condition looks at all earlier steps.
-use Rattle.std.specs.Prelude.{ℕ, zero, suc, ◌+◌, ◌-◌, ◌*◌, nat_le, nat_lt, ◌==◌, Bool, true, false, not, ◌&&◌, ◌||◌, if◌then◌else◌, List, [], ◌∷◌, Option, Some, None, slice_get}
+use Rattle.std.specs.Prelude.{ℕ, ◌+◌, ◌-◌, ◌*◌, nat_le, nat_lt, ◌==◌, Bool, true, false, not, ◌&&◌, ◌||◌, if◌then◌else◌, List, [], ◌∷◌, Option, Some, None}
 use Rattle.std.specs.List.{list_all, list_any}
 use Rattle.tw_types.specs.declared.team.Team.{Team}
-use Rattle.tw_types.specs.declared.datagram.Datagram.{Datagram}
+use Rattle.tw_types.specs.Numbered.{numbered}
 use Rattle.tw_types.specs.declared.step.Cause.{Cause}
 use Rattle.tw_types.specs.declared.step.Cause.TheVariants.{Time, Drift, Start, NotRunning, NoDatagram, Reference as OutsideReference}
 use Rattle.tw_types.specs.declared.step.Act.{Act}
 use Rattle.tw_types.specs.declared.step.Step.{Step}
 use Rattle.tw_types.specs.declared.step.Act.TheVariants.{First, Again, Crash, Tick, Recv, Send, Reference, Look}
+use Rattle.tw_machine.specs.Dispatches.{Dispatch}
 
 -- A clock that drifts by at most ppm parts per million may read h at t and later h' at t'. One tick is given to rounding, and
 -- no reading falls.
@@ -63,18 +64,13 @@ was_started who past = list_any (λ e. (e.who == who) && is_start e.act) past
 abbrev pub may_start : List Step → Step → Bool
 may_start past s = not (is_running s.who past) && each_own (λ e. nat_lt e.h s.h) s.who past && not (is_first s.act && was_started s.who past)
 
--- the datagram of this number, with its receiver, among those sent so far, which are counted from 1
-abbrev pub sent_as : ℕ → List (ℕ × Datagram) → Option (ℕ × Datagram)
-sent_as zero sent = None
-sent_as (suc i) sent = slice_get sent i
-
--- a received datagram was sent earlier, to this process
-abbrev pub was_sent_to : ℕ → Option (ℕ × Datagram) → Bool
+-- a received datagram, which has its number among those sent so far, was sent to this process
+abbrev pub was_sent_to : ℕ → Option Dispatch → Bool
 was_sent_to who None = false
-was_sent_to who (Some d) = d.0 == who
+was_sent_to who (Some d) = d.to == who
 
-abbrev pub may_receive : List (ℕ × Datagram) → Step → Act → Bool
-may_receive sent s (Recv d) = was_sent_to s.who (sent_as d sent)
+abbrev pub may_receive : List Dispatch → Step → Act → Bool
+may_receive sent s (Recv d) = was_sent_to s.who (numbered d sent)
 may_receive sent s First = true
 may_receive sent s Again = true
 may_receive sent s Crash = true
@@ -100,7 +96,7 @@ pub record Condition : Type 0 where
   pub met : Bool
 
 -- the conditions on a step after a past, in the order in which they are looked at
-abbrev pub conditions : Team → List (ℕ × Datagram) → List Step → Step → List Condition
+abbrev pub conditions : Team → List Dispatch → List Step → Step → List Condition
 conditions team sent past s =
     record { cause = Time; met = list_all (λ e. nat_le e.t s.t) past }
     ∷ record { cause = Drift; met = each_own (λ e. keeps_drift team.ppm e.t e.h s.t s.h) s.who past }
@@ -115,5 +111,5 @@ first_unmet [] = None
 first_unmet (c ∷ cs) = if c.met then first_unmet cs else Some c.cause
 
 -- the first cause that keeps a step from following a past, None where it may follow
-abbrev pub cause_of : Team → List (ℕ × Datagram) → List Step → Step → Option Cause
+abbrev pub cause_of : Team → List Dispatch → List Step → Step → Option Cause
 cause_of team sent past s = first_unmet (conditions team sent past s)

@@ -1,25 +1,21 @@
 -- What the clocks of a schedule owe to team time.
 use Rattle.std.specs.Prelude.{ℕ, ◌+◌, ◌-◌, ◌≤◌, ◌≡◌, nat_le, true, List, [], ◌∷◌, Option, Ok, IfSome}
-use Rattle.std.specs.List.{list_all, AllByRecursion}
+use Rattle.std.specs.List.{list_all}
 use Rattle.tw_types.specs.declared.team.Team.{Team}
 use Rattle.tw_num.specs.declared.interval.Interval.{Interval}
+use Rattle.tw_num.specs.declared.moment.Moment.{Moment}
 use Rattle.tw_num.specs.Interval.{Holds}
 use Rattle.tw_num.specs.Clock.{interval_at}
-use Rattle.tw_num.specs.Rate.{Rate, rate}
-use Rattle.tw_types.specs.Trips.{trip_of}
+use Rattle.tw_num.specs.Rate.{Rate}
 use Rattle.tw_types.specs.declared.step.Step.{Step}
-use Rattle.tw_machine.specs.Schedule.{is_built}
 use Rattle.tw_machine.specs.Admissible.{each_own, keeps_drift}
 use Rattle.tw_types.specs.Process.{Process}
 use Rattle.tw_types.specs.Row.{Row}
 use Rattle.tw_machine.specs.Event.{Packet}
-use Rattle.tw_machine.specs.Step.{heard}
+use Rattle.tw_machine.specs.Control.{rate_of}
+use Rattle.tw_machine.specs.Step.{moment_of}
 use Rattle.tw_machine.specs.Rows.{row_of}
-use Rattle.tw_machine.specs.History.{Dispatch}
-
--- each step of the schedule is of an act that a replay takes today
-abbrev pub AreBuilt : List Step → Type 0
-AreBuilt past = AllByRecursion (λ (s : Step). is_built s.act ≡ true) past
+use Rattle.tw_machine.specs.Dispatches.{Dispatch}
 
 -- Process who may read h at team time t once these steps are done: none of them is later, and its clock keeps the drift from
 -- each of its own.
@@ -39,13 +35,17 @@ SentWell d = IfSome d.datagram.head.interval (λ i. Holds i d.at)
 abbrev pub Covers : Step → Dispatch → ℕ → Type 0
 Covers s d bound = s.t - d.at ≤ bound
 
--- the interval that a process has at this step once it heard the datagram
-abbrev pub own_interval : Team → Step → Dispatch → Process → Option Interval
-own_interval team s d p = interval_at team.ppm s.h (heard team p.identity.who s.h (Packet (Ok d.datagram)) p.timing).timing.clock
+-- what the clock of a process that receives the datagram tells it at this step
+abbrev pub moment_in : Team → Step → Dispatch → Process → Moment
+moment_in team s d p = moment_of team s.h (Packet (Ok d.datagram)) p
 
--- the rate of a datagram that the process receives at this step
+-- the interval that the process has then
+abbrev pub own_interval : Team → Step → Dispatch → Process → Option Interval
+own_interval team s d p = (moment_in team s d p).interval
+
+-- the rate of the datagram
 abbrev pub rate_at : Team → Step → Dispatch → Process → Rate
-rate_at team s d p = rate team.ppm team.delta (trip_of d.datagram.head s.h) (own_interval team s d p) d.datagram.head.interval
+rate_at team s d p = rate_of team (moment_in team s d p) d.datagram.head
 
 -- a reading is at most eps away from team time t, on either side
 pub record IsNear (eps t reading : ℕ) : Type 0 where

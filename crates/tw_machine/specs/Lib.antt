@@ -1,10 +1,16 @@
 pub mod Schedule
 pub mod Grammar
+pub mod Dispatches
 pub mod Admissible
 pub mod Event
 pub mod Packet
 pub mod Hearing
+pub mod Run
+pub mod Sending
 pub mod Beating
+pub mod Control
+pub mod Rules
+pub mod Duties
 pub mod Step
 pub mod World
 pub mod History

@@ -1,7 +1,9 @@
 -- What a schedule makes of the processes.
-use Rattle.std.specs.Prelude.{ℕ, ◌≡◌, ◌==◌, if◌then◌else◌, List, [], ◌∷◌, ◌++◌, Option, Some, None, Ok}
+use Rattle.std.specs.Prelude.{ℕ, ◌≡◌, ◌==◌, true, if◌then◌else◌, List, [], ◌∷◌, ◌++◌, map, Option, Some, None, Ok}
+use Rattle.std.specs.List.{AllByRecursion}
 use Rattle.tw_types.specs.declared.team.Team.{Team}
-use Rattle.tw_types.specs.declared.datagram.Datagram.{Datagram}
+use Rattle.tw_types.specs.Numbered.{numbered}
+use Rattle.tw_types.specs.Votes.{Promise, Making}
 use Rattle.tw_types.specs.declared.step.Act.{Act}
 use Rattle.tw_types.specs.declared.step.Step.{Step}
 use Rattle.tw_types.specs.declared.step.Act.TheVariants.{First, Again, Crash, Tick, Recv, Send, Reference, Look}
@@ -14,18 +16,22 @@ use Rattle.tw_types.specs.Outputs.{nothing}
 use Rattle.tw_types.specs.Process.{Process, started}
 use Rattle.tw_machine.specs.Event.{Event, Outcome}
 use Rattle.tw_machine.specs.Step.{step, looked}
-use Rattle.tw_machine.specs.Admissible.{sent_as, cause_of}
+use Rattle.tw_machine.specs.Schedule.{is_built}
+use Rattle.tw_machine.specs.Dispatches.{Dispatch, sent_at}
+use Rattle.tw_machine.specs.Admissible.{cause_of}
 
--- the running processes, and all datagrams sent so far, each with its receiver, in the order in which they were sent
+-- the running processes, and all that was sent so far, in the order in which it was sent
 pub record World : Type 0 where
   pub process_of : ℕ → Option Process
-  pub sent : List (ℕ × Datagram)
+  pub sent : List Dispatch
 
--- what an act comes to: what then runs of the process, how the step ended, and what it gave
+-- What an act comes to: what then runs of the process, how the step ended, what it gave, and what it promised and made.
 pub record Deed : Type 0 where
   pub process : Option Process
   pub answer : RowAnswer
   pub out : Outputs
+  pub promises : List Promise
+  pub makings : List Making
 
 abbrev pub row_answer : Answer → RowAnswer
 row_answer answers.Done = RowAnswer.Done
@@ -33,27 +39,27 @@ row_answer (answers.Dropped reason) = RowAnswer.Dropped reason
 
 -- an act that gives nothing
 abbrev pub silent : Option Process → RowAnswer → Deed
-silent p answer = record { process = p; answer = answer; out = nothing }
+silent p answer = record { process = p; answer = answer; out = nothing; promises = []; makings = [] }
 
 abbrev pub deed_of : Outcome → Deed
-deed_of o = record { process = Some o.process; answer = row_answer o.answer; out = o.out }
+deed_of o = record { process = Some o.process; answer = row_answer o.answer; out = o.out; promises = o.promises; makings = o.makings }
 
 abbrev pub happen : Team → ℕ → Event → Process → Deed
 happen team h e p = deed_of (step team h e p)
 
 -- what a process receives is what the datagram spells; of one that wasn't sent nothing comes
-abbrev pub receive : Team → ℕ → Option (ℕ × Datagram) → Process → Deed
+abbrev pub receive : Team → ℕ → Option Dispatch → Process → Deed
 receive team h None p = silent (Some p) RowAnswer.Done
-receive team h (Some d) p = happen team h (Event.Packet (Ok d.1)) p
+receive team h (Some d) p = happen team h (Event.Packet (Ok d.datagram)) p
 
 -- An act of process who at its reading h, after these datagrams were sent. A send isn't built yet and changes nothing.
-abbrev pub deed : Team → ℕ → ℕ → List (ℕ × Datagram) → Act → Option Process → Deed
+abbrev pub deed : Team → ℕ → ℕ → List Dispatch → Act → Option Process → Deed
 deed team who h sent First p = silent (Some (started who modes.First h)) RowAnswer.Start
 deed team who h sent Again p = silent (Some (started who modes.Again h)) RowAnswer.Start
 deed team who h sent Crash p = silent None RowAnswer.Crash
 deed team who h sent act None = silent None RowAnswer.Done
 deed team who h sent Tick (Some p) = happen team h Event.Tick p
-deed team who h sent (Recv d) (Some p) = receive team h (sent_as d sent) p
+deed team who h sent (Recv d) (Some p) = receive team h (numbered d sent) p
 deed team who h sent (Send order atom payload) (Some p) = silent (Some p) RowAnswer.Done
 deed team who h sent (Reference lo hi) (Some p) = happen team h (Event.Reference lo hi) p
 deed team who h sent Look (Some p) = silent (Some (looked team h p)) RowAnswer.Look
@@ -67,7 +73,10 @@ abbrev pub nobody : World
 nobody = record { process_of = λ i. None; sent = [] }
 
 abbrev pub world_after : Team → World → Step → World
-world_after team w s = record { process_of = λ i. if s.who == i then (deed_in team w s).process else w.process_of i; sent = w.sent ++ (deed_in team w s).out.sends }
+world_after team w s = record {
+  process_of = λ i. if s.who == i then (deed_in team w s).process else w.process_of i;
+  sent = w.sent ++ map (sent_at s.t) (deed_in team w s).out.sends;
+}
 
 -- the world after all steps of a schedule
 abbrev pub world : Team → List Step → World
@@ -78,3 +87,11 @@ world team (s ∷ past) = world_after team (world team past) s
 abbrev pub Admissible : Team → List Step → Type 0
 Admissible team [] = Unit {0}
 Admissible team (s ∷ past) = Admissible team past × (cause_of team (world team past).sent past s ≡ None)
+
+-- each step of the schedule is of an act that a replay takes today
+abbrev pub AreBuilt : List Step → Type 0
+AreBuilt past = AllByRecursion (λ (s : Step). is_built s.act ≡ true) past
+
+-- a schedule that a replay takes
+abbrev pub IsReplayable : Team → List Step → Type 0
+IsReplayable team past = Admissible team past × AreBuilt past

@@ -1,10 +1,10 @@
 -- The definitions, computed on values that were worked out by hand.
-use Rattle.std.proofs.Common.{◌≡◌, refl, ℕ, Some, None}
+use Rattle.std.proofs.Common.{◌≡◌, refl, ℕ, ◌-◌, ◌^◌, Some, None}
 use Rattle.std.specs.Prelude.{pos, negsuc}
 use Rattle.tw_num.specs.declared.interval.Interval.{Interval}
 use Rattle.tw_num.specs.Elapsed.{up, down}
 use Rattle.tw_num.specs.Interval.{aged, meet}
-use Rattle.tw_num.specs.Clock.{Clock, heard, fresh, after_given, after_read, interval_at, reading_at, refusal}
+use Rattle.tw_num.specs.Clock.{Clock, delayed, fresh, after_given, after_read, interval_at, reading_at, refusal}
 use Rattle.tw_num.specs.Rate.{RoundTrip, echo_bound, interval_bound, rate, Timely, Late, Unrated}
 
 abbrev between : ℕ → ℕ → Interval
@@ -51,6 +51,16 @@ goes_on = refl
 refused : refusal 0 5 (between 100 110) (after_given 0 5 (between 10 20) fresh) ≡ Some (record { have = between 9 21; got = between 99 111 })
 refused = refl
 
+-- An interval gives a reading where its upper end, a tick later at once, is below 2 ^ 60.
+last_reading : reading_at 0 1000 5 (after_given 0 5 (between (2 ^ 60 - 2) (2 ^ 60 - 2)) fresh) ≡ Some (2 ^ 60 - 2)
+last_reading = refl
+
+beyond_readings : reading_at 0 1000 5 (after_given 0 5 (between (2 ^ 60 - 1) (2 ^ 60 - 1)) fresh) ≡ None
+beyond_readings = refl
+
+there_is_an_interval : interval_at 0 5 (after_given 0 5 (between (2 ^ 60 - 1) (2 ^ 60 - 1)) fresh) ≡ Some (between (2 ^ 60 - 2) (2 ^ 60))
+there_is_an_interval = refl
+
 -- a trip of 20000 ticks at home and 19000 away, by clocks that don't drift
 abbrev there_and_back : RoundTrip
 there_and_back = record { a = 510; b = 1010; sent = 20010; h = 20510 }
@@ -69,8 +79,19 @@ waited_too_long = refl
 from_later : echo_bound 0 (record { a = 11; b = 0; sent = 100; h = 10 }) ≡ None
 from_later = refl
 
-heard_later : echo_bound 0 (record { a = 0; b = 101; sent = 100; h = 10 }) ≡ None
-heard_later = refl
+echo_later : echo_bound 0 (record { a = 0; b = 101; sent = 100; h = 10 }) ≡ None
+echo_later = refl
+
+-- the receiver read its clock no earlier than the echo says, and the sender sent no earlier than it heard
+asked_just_now : echo_bound 0 (record { a = 10; b = 5; sent = 5; h = 10 }) ≡ Some 1
+asked_just_now = refl
+
+-- without a bound by the echo the interval's is left, or none
+by_interval_alone : rate 0 1001 (Some (record { a = 11; b = 0; sent = 100; h = 10 })) (Some (between 20509 20511)) (Some (between 20009 20011)) ≡ Timely 502
+by_interval_alone = refl
+
+by_nothing : rate 0 1001 (Some (record { a = 0; b = 101; sent = 100; h = 10 })) (Some (between 20509 20511)) None ≡ Unrated
+by_nothing = refl
 
 -- the drift bound counts on both sides: up 1000000 is 1001002 and down 1000000 is 999000 at a thousandth
 drifting : echo_bound 1000 (record { a = 0; b = 0; sent = 1000000; h = 1000000 }) ≡ Some 2002
@@ -98,5 +119,5 @@ by_echo_again = refl
 nothing_told : rate 0 10000 None (Some (between 0 1)) None ≡ Unrated
 nothing_told = refl
 
-heard_wider : heard (between 20009 20011) 1002 ≡ between 20009 21013
-heard_wider = refl
+delayed_wider : delayed (between 20009 20011) 1002 ≡ between 20009 21013
+delayed_wider = refl

@@ -4,6 +4,7 @@ use Rattle.std.specs.Prelude.{ℕ, ◌+◌, ◌-◌, ◌*◌, ◌/◌, ◌^◌, 
 use Rattle.std.specs.List.{AllByRecursion}
 use Rattle.tw_num.specs.declared.interval.Interval.{Interval}
 use Rattle.tw_num.specs.declared.interval.Disjoint.{Disjoint}
+use Rattle.tw_num.specs.declared.moment.Moment.{Moment}
 use Rattle.tw_num.specs.Interval.{aged, meet, narrowest}
 
 -- an interval that held team time at the reading h
@@ -12,8 +13,8 @@ pub record Given : Type 0 where
   pub interval : Interval
 
 -- what is given of an interval that was sent: it held team time then, at most so long ago
-abbrev pub heard : Interval → ℕ → Interval
-heard i bound = record { lo = i.lo; hi = i.hi + bound }
+abbrev pub delayed : Interval → ℕ → Interval
+delayed i bound = record { lo = i.lo; hi = i.hi + bound }
 
 -- What a process's clock knows since its start: the intervals that it was given and that were not refused, the newest
 -- first; its greatest reading so far; and the first interval that was refused, with what it contradicted.
@@ -57,6 +58,10 @@ reading_of eps greatest (Some i) = if is_narrow eps i then Some (at_least greate
 -- the reading at h: the middle of a narrow interval, or the greatest reading so far where that is above it
 abbrev pub reading_at : ℕ → ℕ → ℕ → Clock → Option ℕ
 reading_at ppm eps h c = reading_of eps c.greatest (interval_at ppm h c)
+
+-- what a clock tells at h
+abbrev pub moment_at : ℕ → ℕ → ℕ → Clock → Moment
+moment_at ppm eps h c = record { h = h; reading = reading_at ppm eps h c; interval = interval_at ppm h c }
 
 abbrev pub or_before : Option ℕ → Option ℕ → Option ℕ
 or_before None before = before

@@ -1,5 +1,5 @@
 //! Numbers of the time service: how much team time a number of clock ticks may stand for, intervals of team time that
-//! age and meet, and the error of a call that takes memory.
+//! age and meet, what a clock tells at one moment, and the error of a call that takes memory.
 //!
 //! Rules held here: a hardware clock drifts by at most `ppm` parts per million and its readings are rounded to a tick,
 //! so elapsed ticks bound elapsed team time from both sides. The unit is one microsecond. The model of clocks is that
@@ -9,7 +9,9 @@
 mod elapsed;
 mod interval;
 mod memory;
+mod moment;
 
 pub use elapsed::{down, up};
 pub use interval::{Disjoint, Interval};
 pub use memory::WantOfMemory;
+pub use moment::Moment;

@@ -1,1 +1,5 @@
+pub mod Up
+pub mod Lists
 mod Worked
+mod FlagWorked
+mod EachKind

@@ -6,7 +6,6 @@ use Rattle.tw_types.specs.declared.message.Decision as code_decision
 use Rattle.tw_types.specs.declared.datagram.Body.{Body}
 use Rattle.tw_types.specs.declared.datagram.Body.TheVariants as bodies
 use Rattle.tw_types.specs.declared.datagram.Datagram.{Datagram}
-use Rattle.tw_types.specs.declared.datagram.Want.TheVariants as wants
 use Rattle.tw_types.specs.declared.outputs.Pass as code_pass
 use Rattle.tw_types.specs.declared.outputs.Outputs as code_outputs
 use Rattle.tw_types.specs.declared.row.RowLine.{RowLine}

@@ -2,7 +2,11 @@
 use Rattle.std.specs.Prelude.{ℕ, Option, None}
 use Rattle.tw_num.specs.Clock.{Clock, fresh}
 use Rattle.tw_types.specs.declared.outputs.Mode.{Mode}
+use Rattle.tw_types.specs.declared.outputs.Mode.TheVariants.{First, Again}
 use Rattle.tw_types.specs.declared.datagram.Echo.{Echo}
+use Rattle.tw_types.specs.declared.ballot.Ballot.{Ballot}
+use Rattle.tw_types.specs.Votes.{Vote, no_vote}
+use Rattle.tw_types.specs.Beliefs.{Belief, Informed, Blank, Log, no_log}
 
 -- Who it is: its number, how it was started, its hardware reading at the beginning of this life, and that at its start.
 pub record Identity : Type 0 where
@@ -25,6 +29,17 @@ pub record Process : Type 0 where
   pub identity : Identity
   pub timing : Timing
   pub beat : Beat
+  -- what it promised, and the ballot that it holds, if any
+  pub vote : Vote
+  pub ballot : Option Ballot
+  -- its group, and the group's list
+  pub belief : Belief
+  pub log : Log
+
+-- A first start has all that there ever was, which is nothing; another one lost it.
+abbrev pub belief_at_start : Mode → Belief
+belief_at_start First = Informed None
+belief_at_start Again = Blank None
 
 -- a process that was just started at its reading h
 abbrev pub started : ℕ → Mode → ℕ → Process
@@ -32,4 +47,8 @@ started who mode h = record {
   identity = record { who = who; mode = mode; incarnation = h; began = h };
   timing = record { clock = fresh; heard = λ q. None };
   beat = record { last = None };
+  vote = no_vote;
+  ballot = None;
+  belief = belief_at_start mode;
+  log = no_log;
 }

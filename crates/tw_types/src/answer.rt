@@ -43,7 +43,7 @@ pub enum Reason {
 }
 
 /// Why a send of an update is refused.
-#[derive(Clone, Copy, Debug, PartialEq, Eq)]
+#[derive(Clone, Copy, PartialEq, Eq)]
 pub enum ProposeFault {
     /// The payload has more than 128 bytes.
     TooLong,

@@ -5,6 +5,7 @@
 #![tactic(auto)]
 
 mod answer;
+mod ballot;
 mod copies;
 mod datagram;
 mod listed;
@@ -15,6 +16,7 @@ mod step;
 mod team;
 
 pub use answer::{Answer, ProposeFault, Reason};
+pub use ballot::Ballot;
 pub use datagram::{Body, Datagram, Echo, Head, Want, Why, WireFault};
 pub use listed::Listed;
 pub use message::{

@@ -59,7 +59,7 @@ pub struct Entry {
 }
 
 /// An update with its payload.
-#[derive(Debug, Default, PartialEq, Eq, Drop)]
+#[derive(Debug, PartialEq, Eq, Drop)]
 pub struct Kept {
     pub entry: Entry,
     /// It was delivered before its place in the list was known or reached.

@@ -7,7 +7,7 @@ use std::alloc::Global;
 use tw_num::WantOfMemory;
 
 /// How a position of the list is passed.
-#[derive(Clone, Copy, Debug, PartialEq, Eq)]
+#[derive(Clone, Copy, Debug)]
 pub enum How {
     /// It is delivered now.
     Now,
@@ -18,7 +18,7 @@ pub enum How {
 }
 
 /// A position of the list that was passed, with the update that stands there.
-#[derive(Debug, PartialEq, Eq, Drop)]
+#[derive(Debug, Drop)]
 pub struct Pass {
     /// Counted from 0.
     pub position: u64,

@@ -9,7 +9,7 @@ use std::mem;
 use tw_num::WantOfMemory;
 
 /// How a step ended.
-#[derive(Clone, Copy, Debug, PartialEq, Eq)]
+#[derive(Clone, Copy, PartialEq, Eq)]
 pub enum RowAnswer {
     /// A start.
     Start,
@@ -28,7 +28,7 @@ pub enum RowAnswer {
 }
 
 /// The first line of a row.
-#[derive(Clone, Copy, Debug, PartialEq, Eq)]
+#[derive(Clone, Copy, PartialEq, Eq)]
 pub struct RowLine {
     /// The number of the step, counted from 1.
     pub step: u32,
@@ -49,7 +49,7 @@ pub struct RowLine {
 }
 
 /// What is printed of a step. Contracts see it as just that.
-#[derive(Debug, Drop)]
+#[derive(Drop)]
 pub struct Row {
     pub line: RowLine,
     /// What the step gave.

@@ -4,7 +4,7 @@ use crate::message::{Atom, Order};
 use arrayvec::ArrayVec;
 
 /// What a step of a schedule does.
-#[derive(Debug, PartialEq, Eq, Drop)]
+#[derive(PartialEq, Eq, Drop)]
 pub enum Act {
     /// The process starts for the first time.
     First,
@@ -33,7 +33,7 @@ pub enum Act {
 
 /// One step of a schedule: at team time `t`, in microseconds below 2^60, process `who`, whose hardware clock reads `h`
 /// ticks, below 2^60, acts.
-#[derive(Debug, PartialEq, Eq, Drop)]
+#[derive(PartialEq, Eq, Drop)]
 pub struct Step {
     pub t: u64,
     pub who: u8,

@@ -32,7 +32,7 @@ pub struct Team {
 }
 
 /// Why a team can't be used.
-#[derive(Clone, Copy, Debug, PartialEq, Eq)]
+#[derive(Clone, Copy)]
 pub enum TeamFault {
     /// `n` is not in 3 to 15.
     Size,
@@ -56,6 +56,22 @@ impl Team {
     ghost use Rattle.std.specs.Prelude.{◌≡◌, ◌↔◌, ◌^◌, None, Some, IsOk, MatchResult, nat_le};
     ghost use Rattle.std.specs.List.{list_any};
     ghost use Rattle.tw_types.specs.Team.{fault_of, times_of, IsSound};
+
+    /// A sound team of three processes with exact clocks, for examples.
+    pub const OF_THREE: Team = Team {
+        n: 3,
+        line: 7,
+        ppm: 0,
+        eps: 1000,
+        delta: 10_000,
+        pace: 20_000,
+        decide: 10_000,
+        ring: 50_000,
+        slot: 100_000,
+        lease: 400_000,
+        quarantine: 1_104_003,
+        theta: 30_000,
+    };
 
     /// Whether the team can be used. An `Err` names the first fault, in the order of `TeamFault`.
     pub fn check(&self) -> Result<(), TeamFault>

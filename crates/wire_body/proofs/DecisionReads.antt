@@ -4,6 +4,7 @@ use Rattle.std.specs.Prelude.{IfSome, IsSome}
 use Rattle.std.specs.List.{flat_map, list_all, AllByRecursion}
 use Rattle.std.specs.Int.{w8, w32, w64}
 use Rattle.std.proofs.lemmas.Bool.{eqb-true}
+use Rattle.std.proofs.lemmas.Bool.{and_parts, and_from}
 use Rattle.std.proofs.lemmas.Bool.Decides.{nat_tests}
 use Rattle.tw_types.specs.declared.message.Entry.{Entry}
 use Rattle.tw_types.specs.declared.message.Support.{Support}
@@ -18,7 +19,7 @@ use Rattle.wire_head.specs.Reading.{is_count, is_positive}
 use Rattle.wire_head.proofs.Numbers.{IsBytes, wide8, wide32, wide64, Reads, number_reads}
 use Rattle.wire_head.proofs.Steps.{step, last, last_to, renamed, respelled, moved, tested_reads, checked_reads, count_reads, time_reads, byte_below_reads}
 use Rattle.wire_body.specs.Decisions.{support_at, is_above, seat_at, is_seat_count, seats_at, is_given_at, is_maker, is_ack_within, is_window_count, window_entry_at, window_at, mark_at, is_told, decision_at, decision_size}
-use Rattle.wire_body.proofs.ListReads.{Row, list_reads, counted_reads, optional_reads, both_true, true_both, all_passed, all_pass, IsNext, row_to, row_from}
+use Rattle.wire_body.proofs.ListReads.{Row, list_reads, counted_reads, optional_reads, all_passed, all_pass, IsNext, row_to, row_from}
 use Rattle.wire_body.proofs.EntryReads.{entry_reads}
 
 -- ---- seats
@@ -44,7 +45,7 @@ record IsAbove (n : ℕ) (before : List Seat) (who : ℕ) : Type 0 where
 
 above_to : (n : ℕ) (before : List Seat) (who : ℕ) → is_above n before who ≡ true → IsAbove n before who
 above_to n before who t =
-    let h = both_true (nat_lt who n) (list_all (λ (s : Seat). nat_lt s.member.who who) before) t in
+    let h = and_parts (nat_lt who n) (list_all (λ (s : Seat). nat_lt s.member.who who) before) t in
     record {
       limit = let l = h.0 in grind (arith, nat_tests);
       above = all_passed (λ (s : Seat). nat_lt s.member.who who) (λ (s : Seat). s.member.who < who) (λ s p. grind (arith, nat_tests)) before h.1;
@@ -53,7 +54,7 @@ above_to n before who t =
 above_from : (n : ℕ) (before : List Seat) (who : ℕ) → IsAbove n before who → is_above n before who ≡ true
 above_from n before who is =
     let l = is.limit in
-    true_both (nat_lt who n) (list_all (λ (s : Seat). nat_lt s.member.who who) before) (grind (arith, nat_tests)) (all_pass (λ (s : Seat). nat_lt s.member.who who) (λ (s : Seat). s.member.who < who) (λ s p. grind (arith, nat_tests)) before is.above)
+    and_from (nat_lt who n) (list_all (λ (s : Seat). nat_lt s.member.who who) before) (grind (arith, nat_tests)) (all_pass (λ (s : Seat). nat_lt s.member.who who) (λ (s : Seat). s.member.who < who) (λ s p. grind (arith, nat_tests)) before is.above)
 
 record IsNextSeq (m : ℕ) : Type 0 where
   limit : m < 2 ^ 32
@@ -118,7 +119,7 @@ maker_to made (s ∷ seats) maker t = by_seat (is_of_maker made maker s) refl (m
   where
     by_seat : (b : Bool) → is_of_maker made maker s ≡ b → (is_maker made seats maker ≡ true → IsMadeBy maker made seats) → IsMadeBy maker made (s ∷ seats)
     by_seat true e rest =
-        let h = both_true (s.member.who == maker) (is_given_at made s.support) e in
+        let h = and_parts (s.member.who == maker) (is_given_at made s.support) e in
         let g = given_to made s.support h.1 in
         inl (eqb-true _ _ h.0, g.0, g.1)
     by_seat false e rest = inr (rest (rw e at t))
@@ -161,8 +162,8 @@ record IsWindowCount (low : ℕ) (seats : List Seat) (k : ℕ) : Type 0 where
 
 window_count_to : (low : ℕ) (seats : List Seat) (k : ℕ) → is_window_count low seats k ≡ true → IsWindowCount low seats k
 window_count_to low seats k t =
-    let h = both_true (nat_le k 32 && is_count (low + k)) (list_all (λ (s : Seat). is_ack_within (low + k) s.support) seats) t in
-    let g = both_true (nat_le k 32) (is_count (low + k)) h.0 in
+    let h = and_parts (nat_le k 32 && is_count (low + k)) (list_all (λ (s : Seat). is_ack_within (low + k) s.support) seats) t in
+    let g = and_parts (nat_le k 32) (is_count (low + k)) h.0 in
     record {
       at_most = let l = g.0 in grind (arith, nat_tests);
       end = let l = g.1 in grind (arith, nat_tests);
@@ -173,7 +174,7 @@ window_count_from : (low : ℕ) (seats : List Seat) (k : ℕ) → IsWindowCount 
 window_count_from low seats k is =
     let a = is.at_most in
     let b = is.end in
-    true_both (nat_le k 32 && is_count (low + k)) (list_all (λ (s : Seat). is_ack_within (low + k) s.support) seats) (true_both (nat_le k 32) (is_count (low + k)) (grind (arith, nat_tests)) (grind (arith, nat_tests)))
+    and_from (nat_le k 32 && is_count (low + k)) (list_all (λ (s : Seat). is_ack_within (low + k) s.support) seats) (and_from (nat_le k 32) (is_count (low + k)) (grind (arith, nat_tests)) (grind (arith, nat_tests)))
     (all_pass (λ (s : Seat). is_ack_within (low + k) s.support) (IsAckWithin (low + k)) (λ s p. ack_from (low + k) s.support p) seats is.acks)
 
 -- an entry of a window; those before it don't matter
@@ -249,7 +250,7 @@ record IsToldGroup (told : Option ℕ) (g : ℕ) : Type 0 where
 
 group_to : (told : Option ℕ) (g : ℕ) → (is_positive g && is_told told g) ≡ true → IsToldGroup told g
 group_to told g t =
-    let h = both_true (is_positive g) (is_told told g) t in
+    let h = and_parts (is_positive g) (is_told told g) t in
     let p = h.0 in
     record { group = record { above = grind (arith, nat_tests); count = grind (arith, nat_tests) }; told_is = told_to told g h.1 }
 
@@ -257,7 +258,7 @@ group_from : (told : Option ℕ) (g : ℕ) → IsToldGroup told g → (g < 2 ^ 6
 group_from told g is =
     let a = is.group.above in
     let b = is.group.count in
-    (omega arith, true_both (is_positive g) (is_told told g) (grind (arith, nat_tests)) (told_from told g is.told_is))
+    (omega arith, and_from (is_positive g) (is_told told g) (grind (arith, nat_tests)) (told_from told g is.told_is))
 
 pub record IsToldCount (told : Option ℕ) (t : ℕ) : Type 0 where
   pub count : IsCount t
@@ -265,14 +266,14 @@ pub record IsToldCount (told : Option ℕ) (t : ℕ) : Type 0 where
 
 pub count_to : (told : Option ℕ) (c : ℕ) → (is_count c && is_told told c) ≡ true → IsToldCount told c
 count_to told c t =
-    let h = both_true (is_count c) (is_told told c) t in
+    let h = and_parts (is_count c) (is_told told c) t in
     let p = h.0 in
     record { count = grind (arith, nat_tests); told_is = told_to told c h.1 }
 
 pub count_from : (told : Option ℕ) (c : ℕ) → IsToldCount told c → (c < 2 ^ 64) × ((is_count c && is_told told c) ≡ true)
 count_from told c is =
     let a = is.count in
-    (omega arith, true_both (is_count c) (is_told told c) (grind (arith, nat_tests)) (told_from told c is.told_is))
+    (omega arith, and_from (is_count c) (is_told told c) (grind (arith, nat_tests)) (told_from told c is.told_is))
 
 -- a decision that fits, of the group and turn that were told
 pub record IsDecision (n : ℕ) (told_group told_turn : Option ℕ) (d : Decision) : Type 0 where

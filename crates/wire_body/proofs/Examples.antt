@@ -1,6 +1,5 @@
 -- A datagram whose bytes were worked out by hand, and one with a decision, read as the definitions say.
 use Rattle.std.proofs.Common.{◌≡◌, [], ◌∷◌, true, Some, None, Ok, inl, refl, arith}
-use Rattle.tw_types.specs.declared.team.Team.{Team}
 use Rattle.tw_types.specs.declared.message.Order.TheVariants.{Timed}
 use Rattle.tw_types.specs.declared.message.Atom.TheVariants.{Weak}
 use Rattle.tw_types.specs.declared.message.Decision.{Decision}
@@ -10,7 +9,7 @@ use Rattle.tw_types.specs.declared.datagram.Datagram.{Datagram}
 use Rattle.tw_types.specs.Bytes.{number_bytes}
 use Rattle.tw_types.specs.Ranges.{DecisionFits, DatagramFits}
 use Rattle.tw_types.specs.Spelling.{spelling}
-use Rattle.tw_types.specs.Examples.{sign_of_life, sign_of_life_bytes}
+use Rattle.tw_types.specs.Examples.{team_a, sign_of_life, sign_of_life_bytes}
 use Rattle.wire_head.specs.Reading.{number_at, checked_at, zeros_at, guarded_at, interval_at, head_at}
 use Rattle.wire_body.specs.Reading.{sync_at, body_at, datagram_at}
 use Rattle.wire_body.specs.Lists.{items_at, counted_at, optional_at}
@@ -18,16 +17,13 @@ use Rattle.wire_body.specs.Entries.{id_at, entry_at}
 use Rattle.wire_body.specs.Decisions.{support_at, seat_at, seats_at, window_entry_at, window_at, mark_at, decision_at}
 use Rattle.wire_body.specs.Votes.{report_at, promise_at}
 
-abbrev team_of_three : Team
-team_of_three = record { n = 3; line = 7; ppm = 0; eps = 1000; delta = 10000; pace = 20000; decide = 10000; ring = 50000; slot = 100000; lease = 400000; quarantine = 1104003; theta = 30000 }
-
 sign_of_life_fits : DatagramFits 3 sign_of_life
 sign_of_life_fits = record {
   head = record { from = omega arith; to = omega arith; incarnation = omega arith; sent = omega arith; interval = record { lo = omega arith; hi = omega arith; ordered = omega arith }; echo = tt };
   body = tt;
 }
 
-sign_of_life_read : datagram_at team_of_three sign_of_life_bytes ≡ Ok sign_of_life
+sign_of_life_read : datagram_at team_a sign_of_life_bytes ≡ Ok sign_of_life
 unfolding number_at checked_at zeros_at guarded_at interval_at head_at optional_at sync_at body_at datagram_at
 sign_of_life_read = refl
 
@@ -88,6 +84,6 @@ promise_fits = record {
   };
 }
 
-promise_read : datagram_at team_of_three (spelling 7 promise) ≡ Ok promise
+promise_read : datagram_at team_a (spelling 7 promise) ≡ Ok promise
 unfolding promise promised_decision number_bytes number_at checked_at zeros_at guarded_at head_at items_at counted_at optional_at id_at entry_at support_at seat_at seats_at window_entry_at window_at mark_at decision_at report_at promise_at body_at datagram_at
 promise_read = refl

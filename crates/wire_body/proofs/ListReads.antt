@@ -3,8 +3,10 @@ use Rattle.std.proofs.Common.{◌≡◌, ℕ, zero, suc, ◌+◌, ◌*◌, ◌<�
 use Rattle.std.specs.Prelude.{IfSome, is_some}
 use Rattle.std.specs.List.{flat_map, list_all, AllByRecursion}
 use Rattle.std.specs.Int.{Width, byte_len}
+use Rattle.std.proofs.lemmas.Bool.{and_parts, and_from}
 use Rattle.std.proofs.lemmas.Bool.Decides.{nat_tests}
 use Rattle.std.proofs.lemmas.List.{append-nil, length-append}
+use Rattle.tw_types.proofs.Lists.{all_joined, all_parted}
 use Rattle.tw_types.specs.Bytes.{one, presence, guarded, counted}
 use Rattle.tw_types.specs.declared.datagram.WireFault.{WireFault}
 use Rattle.tw_types.specs.declared.datagram.WireFault.TheVariants.{Short, Field}
@@ -127,14 +129,6 @@ optional_reads {X} k inner_at Is text bytes fits place next e inner =
 
 -- ---- each item of a list, and each two
 
-all_append : {X : Type 0} (P : X → Type 0) (xs ys : List X) → AllByRecursion P (xs ++ ys) → AllByRecursion P xs × AllByRecursion P ys
-all_append P [] ys h = (tt, h)
-all_append P (x ∷ xs) ys h = let z = all_append P xs ys h.1 in ((h.0, z.0), z.1)
-
-append_all : {X : Type 0} (P : X → Type 0) (xs ys : List X) → AllByRecursion P xs → AllByRecursion P ys → AllByRecursion P (xs ++ ys)
-append_all P [] ys h g = g
-append_all P (x ∷ xs) ys h g = (h.0, append_all P xs ys h.1 g)
-
 pub all_map : {X : Type 0} (P Q : X → Type 0) → ((x : X) → P x → Q x) → (xs : List X) → AllByRecursion P xs → AllByRecursion Q xs
 all_map P Q f [] h = tt
 all_map P Q f (x ∷ xs) h = (f x h.0, all_map P Q f xs h.1)
@@ -147,22 +141,14 @@ all_held : {X : Type 0} (P : X → Type 0) → ((x : X) → P x) → (xs : List 
 all_held P f [] = tt
 all_held P f (x ∷ xs) = (f x, all_held P f xs)
 
--- both of two tests
-pub both_true : (a b : Bool) → (a && b) ≡ true → (a ≡ true) × (b ≡ true)
-both_true true b t = (refl, t)
-both_true false b t = absurd cc
-
-pub true_both : (a b : Bool) → a ≡ true → b ≡ true → (a && b) ≡ true
-true_both a b s t = rw (s, t) refl
-
 -- the test of a list and what it says
 pub all_passed : {X : Type 0} (test : X → Bool) (P : X → Type 0) → ((x : X) → test x ≡ true → P x) → (xs : List X) → list_all test xs ≡ true → AllByRecursion P xs
 all_passed test P f [] t = tt
-all_passed test P f (x ∷ xs) t = let h = both_true (test x) (list_all test xs) t in (f x h.0, all_passed test P f xs h.1)
+all_passed test P f (x ∷ xs) t = let h = and_parts (test x) (list_all test xs) t in (f x h.0, all_passed test P f xs h.1)
 
 pub all_pass : {X : Type 0} (test : X → Bool) (P : X → Type 0) → ((x : X) → P x → test x ≡ true) → (xs : List X) → AllByRecursion P xs → list_all test xs ≡ true
 all_pass test P f [] h = refl
-all_pass test P f (x ∷ xs) h = true_both (test x) (list_all test xs) (f x h.0) (all_pass test P f xs h.1)
+all_pass test P f (x ∷ xs) h = and_from (test x) (list_all test xs) (f x h.0) (all_pass test P f xs h.1)
 
 -- an item that fits, and goes with each one before it
 pub record IsNext {X : Type 0} (Fits : X → Type 0) (R : X → X → Type 0) (before : List X) (x : X) : Type 0 where
@@ -180,7 +166,7 @@ module _ {X : Type 0} (Fits : X → Type 0) (R : X → X → Type 0) (Pairs : Li
   are_next before [] r = record { each = tt; pairs = none; goes = all_held (λ (b : X). AllByRecursion (R b) []) (λ b. tt) before }
   are_next before (x ∷ xs) r =
       let z = are_next (before ++ x ∷ []) xs r.1 in
-      let g = all_append (λ (b : X). AllByRecursion (R b) xs) before (x ∷ []) z.goes in
+      let g = all_parted (λ (b : X). AllByRecursion (R b) xs) before (x ∷ []) z.goes in
       record {
         each = (r.0.fits, z.each);
         pairs = more x xs g.1.0 z.pairs;
@@ -195,7 +181,7 @@ module _ {X : Type 0} (Fits : X → Type 0) (R : X → X → Type 0) (Pairs : Li
         next_are (before ++ x ∷ []) xs (record {
           each = a.each.1;
           pairs = l.1;
-          goes = append_all (λ (b : X). AllByRecursion (R b) xs) before (x ∷ []) (all_map (λ (b : X). AllByRecursion (R b) (x ∷ xs)) (λ (b : X). AllByRecursion (R b) xs) (λ b p. p.1) before a.goes) (l.0, tt);
+          goes = all_joined (λ (b : X). AllByRecursion (R b) xs) before (x ∷ []) (all_map (λ (b : X). AllByRecursion (R b) (x ∷ xs)) (λ (b : X). AllByRecursion (R b) xs) (λ b p. p.1) before a.goes) (l.0, tt);
         }),
       )
 

@@ -5,6 +5,7 @@ use Rattle.std.specs.List.{flat_map, list_all, fold, AllByRecursion}
 use Rattle.std.specs.Option.{option_map}
 use Rattle.std.specs.Int.{w8, w64}
 use Rattle.std.proofs.lemmas.Bool.{eqb-true}
+use Rattle.std.proofs.lemmas.Bool.{and_parts, and_from}
 use Rattle.std.proofs.lemmas.Bool.Decides.{nat_tests}
 use Rattle.tw_types.specs.declared.message.Member.{Member}
 use Rattle.tw_types.specs.declared.message.Kind.{Kind}
@@ -21,7 +22,7 @@ use Rattle.wire_head.proofs.Numbers.{IsBytes, wide8, wide64, Reads}
 use Rattle.wire_head.proofs.Steps.{step, last, last_to, renamed, respelled, fixed_reads, checked_reads, count_reads, positive_reads, byte_to_reads, byte_below_reads, guarded_to}
 use Rattle.wire_body.specs.Decisions.{is_told, decision_at, decision_size}
 use Rattle.wire_body.specs.Votes.{is_reporter, kind_from, is_reported_group, last_kind, report_at, sender, is_informed, is_with_decision, number_if, Promised, promise_at, promise_of, optional_size, later, latest, Gathered, is_report_count, reports_at, no_decision_at, no_decision_of}
-use Rattle.wire_body.proofs.ListReads.{Row, list_reads, counted_reads, optional_reads, presence_known, presence_again, both_true, true_both, all_map, all_passed, all_pass, IsNext, row_to, row_from}
+use Rattle.wire_body.proofs.ListReads.{Row, list_reads, counted_reads, optional_reads, presence_known, presence_again, all_map, all_passed, all_pass, IsNext, row_to, row_from}
 use Rattle.wire_body.proofs.DecisionReads.{IsTold as IsToldNumber, told_to, told_from, IsToldCount, count_to, count_from, IsDecision, decision_reads}
 
 -- ---- reports
@@ -46,8 +47,8 @@ record IsReporter (n : ℕ) (told : Option Member) (before : List Report) (who :
 
 reporter_to : (n : ℕ) (told : Option Member) (before : List Report) (who : ℕ) → is_reporter n told before who ≡ true → IsReporter n told before who
 reporter_to n told before who t =
-    let h = both_true (nat_lt who n && is_told (option_map (λ (m : Member). m.who) told) who) (list_all (λ (r : Report). not (r.member.who == who)) before) t in
-    let g = both_true (nat_lt who n) (is_told (option_map (λ (m : Member). m.who) told) who) h.0 in
+    let h = and_parts (nat_lt who n && is_told (option_map (λ (m : Member). m.who) told) who) (list_all (λ (r : Report). not (r.member.who == who)) before) t in
+    let g = and_parts (nat_lt who n) (is_told (option_map (λ (m : Member). m.who) told) who) h.0 in
     record {
       limit = let l = g.0 in grind (arith, nat_tests);
       told_is = told_to (option_map (λ (m : Member). m.who) told) who g.1;
@@ -57,8 +58,8 @@ reporter_to n told before who t =
 reporter_from : (n : ℕ) (told : Option Member) (before : List Report) (who : ℕ) → IsReporter n told before who → is_reporter n told before who ≡ true
 reporter_from n told before who is =
     let l = is.limit in
-    true_both (nat_lt who n && is_told (option_map (λ (m : Member). m.who) told) who) (list_all (λ (r : Report). not (r.member.who == who)) before)
-    (true_both (nat_lt who n) (is_told (option_map (λ (m : Member). m.who) told) who) (grind (arith, nat_tests)) (told_from (option_map (λ (m : Member). m.who) told) who is.told_is))
+    and_from (nat_lt who n && is_told (option_map (λ (m : Member). m.who) told) who) (list_all (λ (r : Report). not (r.member.who == who)) before)
+    (and_from (nat_lt who n) (is_told (option_map (λ (m : Member). m.who) told) who) (grind (arith, nat_tests)) (told_from (option_map (λ (m : Member). m.who) told) who is.told_is))
     (all_pass (λ (r : Report). not (r.member.who == who)) (IsOther who) (λ r p. same_not r.member.who who p) before is.other)
 
 kind_back : (k : ℕ) → k ≤ 1 → kind_number (kind_from k) ≡ k
@@ -81,8 +82,8 @@ record IsReportedGroup (number : ℕ) (told : Option Member) (kind group : ℕ) 
 
 reported_to : (number : ℕ) (told : Option Member) (kind group : ℕ) → is_reported_group number told kind group ≡ true → IsReportedGroup number told kind group
 reported_to number told kind group t =
-    let h = both_true (is_count group && (not (kind == 0) || nat_lt group number)) (is_some told || nat_le 1 group) t in
-    let g = both_true (is_count group) (not (kind == 0) || nat_lt group number) h.0 in
+    let h = and_parts (is_count group && (not (kind == 0) || nat_lt group number)) (is_some told || nat_le 1 group) t in
+    let g = and_parts (is_count group) (not (kind == 0) || nat_lt group number) h.0 in
     record {
       count = let l = g.0 in grind (arith, nat_tests);
       below = λ e. let l = rw e at g.1 in grind (arith, nat_tests);
@@ -92,8 +93,8 @@ reported_to number told kind group t =
 reported_from : (number : ℕ) (told : Option Member) (kind group : ℕ) → IsReportedGroup number told kind group → is_reported_group number told kind group ≡ true
 reported_from number told kind group is =
     let c = is.count in
-    true_both (is_count group && (not (kind == 0) || nat_lt group number)) (is_some told || nat_le 1 group)
-    (true_both (is_count group) (not (kind == 0) || nat_lt group number) (grind (arith, nat_tests)) (by_kind kind is.below))
+    and_from (is_count group && (not (kind == 0) || nat_lt group number)) (is_some told || nat_le 1 group)
+    (and_from (is_count group) (not (kind == 0) || nat_lt group number) (grind (arith, nat_tests)) (by_kind kind is.below))
     (by_told told is.some)
   where
     by_kind : (k : ℕ) → (k ≡ 0 → group < number) → (not (k == 0) || nat_lt group number) ≡ true
@@ -199,7 +200,7 @@ told_decision n r None e is = λ informed.
     let low = rw one at none in
     grind (arith, nat_tests)
 told_decision n r (Some d) e is =
-    let h = both_true (is_informed r.kind) (nat_le 1 r.group) (number_one (is_with_decision r) e) in
+    let h = and_parts (is_informed r.kind) (nat_le 1 r.group) (number_one (is_with_decision r) e) in
     (informed_to r.kind h.0, (let l = h.1 in grind (arith, nat_tests)), is.group, is.turn, is.fits)
 
 decision_told : (n : ℕ) (r : Report) (o : Option Decision) → IsTold n r o → (presence o ≡ number_if (is_with_decision r)) × IfSome o (IsDecision n (Some r.group) (Some r.turn))

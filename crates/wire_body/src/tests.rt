@@ -11,32 +11,24 @@ use wire_head::read_head;
 
 mod decisions;
 mod fixed;
+mod values;
 mod votes;
 
-/// A team of three, with line 7.
+/// A team of three, with a quarantine that is long enough for fifteen.
 const THREE: Team = Team {
-    n: 3,
-    line: 7,
-    ppm: 0,
-    eps: 1_000,
-    delta: 10_000,
-    pace: 20_000,
-    decide: 10_000,
-    ring: 50_000,
-    slot: 100_000,
-    lease: 400_000,
     quarantine: 2_304_003,
-    theta: 30_000,
+    ..Team::OF_THREE
 };
 
-/// A team of this size, three or fifteen.
+/// A team of this size, three, seven or fifteen.
 fn team_of(n: u8) -> Team
     ensures { IsSound result }
 {
-    if n == 15 {
-        return Team { n: 15, ..THREE };
+    match n {
+        7 => Team { n: 7, ..THREE },
+        15 => Team { n: 15, ..THREE },
+        _ => THREE,
     }
-    THREE
 }
 
 /// Process 1 tells process 0 that it is there, and knows an interval.
@@ -291,6 +283,26 @@ fn shortest_and_longest(rt: HostRuntime) -> Result<(), Fail> {
     are_spelled(&rt, &fixed::SPELLED)?;
     are_spelled(&rt, &decisions::SPELLED)?;
     are_spelled(&rt, &votes::SPELLED)
+}
+
+/// What is read is the value that was worked out by hand; `are_spelled` says that it is written as the same bytes.
+#[test]
+fn different_numbers(rt: HostRuntime) -> Result<(), Fail> {
+    let team = team_of(7);
+    for spelled in &values::SPELLED {
+        let page = page_of(spelled);
+        let text = page
+            .bytes
+            .get(..spelled.length)
+            .ok_or("longer than a buffer")?;
+        let value = values::value_of(spelled.kind);
+        assert!(rt;
+            read(&team, text) == Ok(value),
+            "{} is read otherwise",
+            spelled.what
+        );
+    }
+    are_spelled(&rt, &values::SPELLED)
 }
 
 #[test]

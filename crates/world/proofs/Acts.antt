@@ -1,8 +1,6 @@
 -- What an act makes of a process, and what is seen of it then.
-use Rattle.std.proofs.Common.{◌≡◌, refl, sym, ap, subst, ◌∙◌, ℕ, zero, suc, true, false, List, [], ◌∷◌, Option, Some, None, Ok}
-use Rattle.std.specs.Prelude.{slice_get}
+use Rattle.std.proofs.Common.{◌≡◌, refl, sym, ap, subst, ◌∙◌, ℕ, true, false, List, Option, Some, None, Ok}
 use Rattle.std.specs.Option.{option_map}
-use Rattle.std.specs.List.{AllByRecursion}
 use Rattle.tw_num.specs.Clock.{IsNotBefore}
 use Rattle.tw_types.specs.declared.team.Team.{Team}
 use Rattle.tw_types.specs.declared.answer.Answer.{Answer}
@@ -15,28 +13,25 @@ use Rattle.tw_types.specs.declared.step.Act.{Act}
 use Rattle.tw_types.specs.declared.step.Act.TheVariants.{First, Again, Crash, Recv, Reference, Look}
 use Rattle.tw_types.specs.declared.step.Act.TheVariants as acts
 use Rattle.tw_types.specs.Outputs.{nothing}
-use Rattle.tw_types.specs.Process.{Timing, Process, started}
+use Rattle.tw_types.specs.Process.{Process, started}
 use Rattle.tw_types.specs.Ranges.{DatagramFits}
 use Rattle.tw_types.specs.Spelling.{spelling}
-use Rattle.tw_machine.specs.Admissible.{sent_as, was_sent_to}
+use Rattle.tw_types.specs.Numbered.{numbered}
+use Rattle.tw_machine.specs.Dispatches.{Dispatch}
+use Rattle.tw_machine.specs.Admissible.{was_sent_to}
 use Rattle.tw_machine.specs.Event.{Event, Packet}
 use Rattle.tw_machine.specs.Event as machine
 use Rattle.tw_machine.specs.Step.{step, looked, view_of}
 use Rattle.tw_machine.specs.World.{Deed, row_answer, happen, receive, deed}
 use Rattle.tw_machine.proofs.Clocks.{reading_again}
 use Rattle.node_core.specs.declared.process.Core.{Core}
-use Rattle.node_core.specs.Sends.{IsSendable}
 use Rattle.node_core.specs.StandsFor.{StandsFor}
-use Rattle.node_core.proofs.Steps.{heard_not_before}
-use Rattle.tw_machine.proofs.Steps.{step_timing}
+use Rattle.tw_machine.proofs.Tables.{at_number}
+use Rattle.tw_machine.proofs.Steps.{step_not_before, looked_after}
 use Rattle.world.specs.declared.sent.Sent.{Sent}
-use Rattle.world.specs.Datagrams.{datagrams, numbered, spelled, SentStandsFor}
+use Rattle.world.specs.Datagrams.{datagrams, kept_as, WasSendable, SentStandsFor}
 use Rattle.world.specs.Deeds.{RunsAs, IsReady, HasTaken, IsDone, IsDeed}
-use Rattle.world.proofs.Bytes.{numbered-map, sent_numbered}
-
--- an event gives nothing at a later reading than its own
-pub step_not_before : (team : Team) (h : ℕ) (e : Event) (p : Process) → IsNotBefore h p.timing.clock → IsNotBefore h (step team h e p).process.timing.clock
-step_not_before team h e p known = subst (λ (t : Timing). IsNotBefore h t.clock) (sym (step_timing team h e p)) (heard_not_before team p.identity.who h e p.timing known)
+use Rattle.world.proofs.Bytes.{numbered-map}
 
 -- ---- acts
 
@@ -46,7 +41,7 @@ taken_done team h e new a out p known same taken = record {
   process = (step team h e p).process;
   running = (same, taken.process);
   known = step_not_before team h e p known;
-  looked = ap Some (sym taken.settled);
+  looked = ap Some (sym (looked_after team h e p));
   answer = ap row_answer taken.answer;
   out = taken.out;
 }
@@ -55,53 +50,44 @@ taken_done team h e new a out p known same taken = record {
 abbrev pub Takes : Core → ℕ → Event → Core → Answer → Outputs → Type 0
 Takes c h e new a out = (p : Process) → StandsFor c p → IsNotBefore h p.timing.clock → HasTaken c.team h e new a out p
 
-pub tick_done : (team : Team) (who h : ℕ) (act : Act) (sent : List (ℕ × Datagram)) (c new : Core) (a : Answer) (out : Outputs) (before : Option Process) → act ≡ acts.Tick
+pub tick_done : (team : Team) (who h : ℕ) (act : Act) (sent : List Dispatch) (c new : Core) (a : Answer) (out : Outputs) (before : Option Process) → act ≡ acts.Tick
     → IsReady team who h act (Some c) before → new.team ≡ c.team → Takes c h machine.Event.Tick new a out → IsDone team h new (row_answer a) out (deed team who h sent act before)
 tick_done team who h act sent c new a out None is ready same takes = absurd (let r = rw is at ready in cc)
 tick_done team who h act sent c new a out (Some p) is ready same takes =
     let r = rw is at ready in
     rw is (taken_done team h machine.Event.Tick new a out p r.1 (same ∙ r.0.0) (subst (λ (t : Team). HasTaken t h machine.Event.Tick new a out p) r.0.0 (takes p r.0.1 r.1)))
 
-pub reference_done : (team : Team) (who h lo hi : ℕ) (act : Act) (sent : List (ℕ × Datagram)) (c new : Core) (a : Answer) (out : Outputs) (before : Option Process) → act ≡ Reference lo hi
+pub reference_done : (team : Team) (who h lo hi : ℕ) (act : Act) (sent : List Dispatch) (c new : Core) (a : Answer) (out : Outputs) (before : Option Process) → act ≡ Reference lo hi
     → IsReady team who h act (Some c) before → new.team ≡ c.team → Takes c h (machine.Event.Reference lo hi) new a out → IsDone team h new (row_answer a) out (deed team who h sent act before)
 reference_done team who h lo hi act sent c new a out None is ready same takes = absurd (let r = rw is at ready in cc)
 reference_done team who h lo hi act sent c new a out (Some p) is ready same takes =
     let r = rw is at ready in
     rw is (taken_done team h (machine.Event.Reference lo hi) new a out p r.1 (same ∙ r.0.0) (subst (λ (t : Team). HasTaken t h (machine.Event.Reference lo hi) new a out p) r.0.0 (takes p r.0.1 r.1)))
 
-all_sent : (P : ℕ × Datagram → Type 0) (k : ℕ) (sent : List (ℕ × Datagram)) (d : ℕ × Datagram) → AllByRecursion P sent → sent_as k sent ≡ Some d → P d
-all_sent P zero sent d all e = absurd (cc)
-all_sent P (suc i) sent d all e = go sent i all e
-  where
-    go : (xs : List (ℕ × Datagram)) (i : ℕ) → AllByRecursion P xs → slice_get xs i ≡ Some d → P d
-    go [] i all e = absurd (cc)
-    go (x ∷ xs) zero all e = let same : x ≡ d = cc in subst P same all.0
-    go (x ∷ xs) (suc i) all e = go xs i all.1 e
-
 -- the kept bytes of a datagram that was sent
-kept_bytes : (team : Team) (kept : Sent) (sent : List (ℕ × Datagram)) (k : ℕ) (d : ℕ × Datagram) → SentStandsFor team kept sent → sent_as k sent ≡ Some d → numbered k (datagrams kept) ≡ Some (spelled team.line d)
-kept_bytes team kept sent k d stands e = ap (numbered k) stands.spelled ∙ numbered-map (spelled team.line) k sent ∙ ap (option_map (spelled team.line)) (sym (sent_numbered k sent) ∙ e)
+kept_bytes : (team : Team) (kept : Sent) (sent : List Dispatch) (k : ℕ) (d : Dispatch) → SentStandsFor team kept sent → numbered k sent ≡ Some d → numbered k (datagrams kept) ≡ Some (kept_as team.line d)
+kept_bytes team kept sent k d stands e = ap (numbered k) stands.spelled ∙ numbered-map (kept_as team.line) k sent ∙ ap (option_map (kept_as team.line)) e
 
 -- a core that takes the bytes of a datagram
 abbrev pub Receives : Team → Core → ℕ → List ℕ → Core → Answer → Outputs → Type 0
 Receives team c h bytes new a out = (d : Datagram) (p : Process) → DatagramFits team.n d → bytes ≡ spelling team.line d → c.team ≡ team → StandsFor c p → IsNotBefore h p.timing.clock
     → HasTaken team h (Packet (Ok d)) new a out p
 
-pub receive_done : (team : Team) (who h k : ℕ) (act : Act) (kept : Sent) (sent : List (ℕ × Datagram)) (bytes : List ℕ) (c new : Core) (a : Answer) (out : Outputs) (before : Option Process) → act ≡ Recv k
-    → SentStandsFor team kept sent → was_sent_to who (sent_as k sent) ≡ true → ((d : ℕ × List ℕ) → numbered k (datagrams kept) ≡ Some d → bytes ≡ d.1)
+pub receive_done : (team : Team) (who h k : ℕ) (act : Act) (kept : Sent) (sent : List Dispatch) (bytes : List ℕ) (c new : Core) (a : Answer) (out : Outputs) (before : Option Process) → act ≡ Recv k
+    → SentStandsFor team kept sent → was_sent_to who (numbered k sent) ≡ true → ((d : ℕ × List ℕ) → numbered k (datagrams kept) ≡ Some d → bytes ≡ d.1)
     → IsReady team who h act (Some c) before → new.team ≡ c.team → Receives team c h bytes new a out → IsDone team h new (row_answer a) out (deed team who h sent act before)
 receive_done team who h k act kept sent bytes c new a out None is stands there found ready same takes = absurd (let r = rw is at ready in cc)
-receive_done team who h k act kept sent bytes c new a out (Some p) is stands there found ready same takes = rw is (go (sent_as k sent) refl there)
+receive_done team who h k act kept sent bytes c new a out (Some p) is stands there found ready same takes = rw is (go (numbered k sent) refl there)
   where
     runs : RunsAs team (Some c) (Some p) × IsNotBefore h p.timing.clock
     runs = let r = rw is at ready in (r.0, r.1)
 
-    go : (o : Option (ℕ × Datagram)) → sent_as k sent ≡ o → was_sent_to who o ≡ true → IsDone team h new (row_answer a) out (receive team h o p)
+    go : (o : Option Dispatch) → numbered k sent ≡ o → was_sent_to who o ≡ true → IsDone team h new (row_answer a) out (receive team h o p)
     go None e w = absurd (cc)
-    go (Some d) e w = taken_done team h (Packet (Ok d.1)) new a out p runs.1 (same ∙ runs.0.0)
-        (takes d.1 p (all_sent (IsSendable team.n) k sent d stands.fits e).fits (found (spelled team.line d) (kept_bytes team kept sent k d stands e)) runs.0.0 runs.0.1 runs.1)
+    go (Some d) e w = taken_done team h (Packet (Ok d.datagram)) new a out p runs.1 (same ∙ runs.0.0)
+        (takes d.datagram p (at_number (WasSendable team.n) sent k d stands.fits e).fits (found (kept_as team.line d) (kept_bytes team kept sent k d stands e)) runs.0.0 runs.0.1 runs.1)
 
-pub start_done : (team : Team) (who h : ℕ) (act : Act) (sent : List (ℕ × Datagram)) (c : Core) (out : Outputs) (before : Option Process) → act ≡ First → IsReady team who h act (Some c) before → out ≡ nothing
+pub start_done : (team : Team) (who h : ℕ) (act : Act) (sent : List Dispatch) (c : Core) (out : Outputs) (before : Option Process) → act ≡ First → IsReady team who h act (Some c) before → out ≡ nothing
     → IsDone team h c RowAnswer.Start out (deed team who h sent act before)
 start_done team who h act sent c out before is ready gives = let r = rw is at ready in rw is (record {
   process = started who modes.First h;
@@ -112,7 +98,7 @@ start_done team who h act sent c out before is ready gives = let r = rw is at re
   out = gives;
 })
 
-pub look_done : (team : Team) (who h : ℕ) (act : Act) (sent : List (ℕ × Datagram)) (c : Core) (out : Outputs) (before : Option Process) → act ≡ Look → IsReady team who h act (Some c) before → out ≡ nothing
+pub look_done : (team : Team) (who h : ℕ) (act : Act) (sent : List Dispatch) (c : Core) (out : Outputs) (before : Option Process) → act ≡ Look → IsReady team who h act (Some c) before → out ≡ nothing
     → IsDone team h c RowAnswer.Look out (deed team who h sent act before)
 look_done team who h act sent c out None is ready gives = absurd (let r = rw is at ready in cc)
 look_done team who h act sent c out (Some p) is ready gives = let r = rw is at ready in rw is (record {

@@ -7,14 +7,15 @@ use Rattle.std.proofs.lemmas.List.{drop-append-le, take-append-le, take_all, tak
 use Rattle.std.proofs.Math.Seq.{drop-append_seam, take-suc}
 use Rattle.std.proofs.lemmas.List.{map-append}
 use Rattle.std.proofs.lemmas.Option.{slice_get-map}
-use Rattle.tw_types.specs.declared.datagram.Datagram.{Datagram}
+use Rattle.tw_types.specs.Numbered.{numbered}
 use Rattle.tw_types.specs.declared.step.Act.{Act}
 use Rattle.tw_types.specs.declared.step.Act.TheVariants.{Recv}
 use Rattle.tw_types.specs.declared.step.Step.{Step}
-use Rattle.tw_machine.specs.Admissible.{sent_as, was_sent_to, may_receive}
+use Rattle.tw_machine.specs.Admissible.{was_sent_to, may_receive}
+use Rattle.tw_machine.specs.Dispatches.{Dispatch}
 use Rattle.world.specs.declared.sent.Place.{Place}
 use Rattle.world.specs.Places.{is_within, are_within}
-use Rattle.world.specs.Datagrams.{at_place, numbered, is_to, spelled}
+use Rattle.world.specs.Datagrams.{at_place, is_to, kept_as}
 
 and_left : (a b : Bool) → (a && b) ≡ true → a ≡ true
 and_left true b e = refl
@@ -93,10 +94,6 @@ pub numbered_next : {X : Type 0} (k i : ℕ) (xs : List X) → k ≡ i + 1 → n
 numbered_next zero i xs e = absurd (omega arith)
 numbered_next (suc j) i xs e = let same : j ≡ i = omega arith in rw same refl
 
-pub sent_numbered : (k : ℕ) (sent : List (ℕ × Datagram)) → sent_as k sent ≡ numbered k sent
-sent_numbered zero sent = refl
-sent_numbered (suc i) sent = refl
-
 pub all_get : (size : ℕ) (places : List Place) (i : ℕ) (p : Place) → are_within size places ≡ true → slice_get places i ≡ Some p → is_within size p ≡ true
 all_get size [] i p all e = absurd (cc)
 all_get size (q ∷ places) zero p all e = let same : q ≡ p = cc in rw (← same) (and_left (is_within size q) _ all)
@@ -106,20 +103,20 @@ abbrev receiver_of : Option (ℕ × List ℕ) → ℕ
 receiver_of None = 0
 receiver_of (Some d) = d.0
 
-same_receiver : (who line : ℕ) (bytes : List ℕ) (o : Option Place) (d : Option (ℕ × Datagram)) → option_map (at_place bytes) o ≡ option_map (spelled line) d → is_to who o ≡ was_sent_to who d
+same_receiver : (who line : ℕ) (bytes : List ℕ) (o : Option Place) (d : Option Dispatch) → option_map (at_place bytes) o ≡ option_map (kept_as line) d → is_to who o ≡ was_sent_to who d
 same_receiver who line bytes None None e = refl
-same_receiver who line bytes (Some p) (Some d) e = let same : p.to ≡ d.0 = ap (λ (o : Option (ℕ × List ℕ)). receiver_of o) e in rw same refl
+same_receiver who line bytes (Some p) (Some d) e = let same : p.to ≡ d.to = ap (λ (o : Option (ℕ × List ℕ)). receiver_of o) e in rw same refl
 same_receiver who line bytes None (Some d) e = absurd (cc)
 same_receiver who line bytes (Some p) None e = absurd (cc)
 
 -- the receiver of a kept datagram is that of the one that was sent
-pub receiver_kept : (who line k : ℕ) (bytes : List ℕ) (places : List Place) (sent : List (ℕ × Datagram)) → map (at_place bytes) places ≡ map (spelled line) sent
-    → is_to who (numbered k places) ≡ was_sent_to who (sent_as k sent)
+pub receiver_kept : (who line k : ℕ) (bytes : List ℕ) (places : List Place) (sent : List Dispatch) → map (at_place bytes) places ≡ map (kept_as line) sent
+    → is_to who (numbered k places) ≡ was_sent_to who (numbered k sent)
 receiver_kept who line k bytes places sent e =
-    rw (sent_numbered k sent) (same_receiver who line bytes _ _ (sym (numbered-map (at_place bytes) k places) ∙ ap (numbered k) e ∙ numbered-map (spelled line) k sent))
+    same_receiver who line bytes _ _ (sym (numbered-map (at_place bytes) k places) ∙ ap (numbered k) e ∙ numbered-map (kept_as line) k sent)
 
 -- what a step may receive, by what is kept
-pub receives : (line : ℕ) (bytes : List ℕ) (places : List Place) (sent : List (ℕ × Datagram)) (s : Step) (act : Act) (k : ℕ) (received : Bool) → map (at_place bytes) places ≡ map (spelled line) sent
+pub receives : (line : ℕ) (bytes : List ℕ) (places : List Place) (sent : List Dispatch) (s : Step) (act : Act) (k : ℕ) (received : Bool) → map (at_place bytes) places ≡ map (kept_as line) sent
     → act ≡ Recv k → received ≡ is_to s.who (numbered k places) → received ≡ may_receive sent s act
 receives line bytes places sent s act k received e is r = rw is (r ∙ receiver_kept s.who line k bytes places sent e)
 

@@ -1,4 +1,5 @@
 pub mod Bytes
 pub mod Acts
+pub mod Drift
 pub mod Histories
 pub mod Worlds

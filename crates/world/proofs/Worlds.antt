@@ -10,7 +10,9 @@ use Rattle.tw_types.specs.declared.outputs.Outputs.{Outputs}
 use Rattle.tw_types.specs.declared.row.RowAnswer.{RowAnswer}
 use Rattle.tw_types.specs.declared.step.Step.{Step}
 use Rattle.tw_types.specs.Printed.{row_printed}
+use Rattle.tw_machine.specs.Dispatches.{Dispatch, sent_at}
 use Rattle.tw_machine.specs.Admissible.{cause_of, may_receive}
+use Rattle.tw_machine.proofs.Tables.{all_joined, all_mapped}
 use Rattle.tw_machine.specs.Rows.{row_of, line_by}
 use Rattle.tw_machine.specs.World.{world, deed, deed_in}
 use Rattle.node_core.specs.declared.process.Core.{Core}
@@ -18,9 +20,9 @@ use Rattle.node_core.specs.Sends.{IsSendable}
 use Rattle.world.specs.declared.node.Node.{Node}
 use Rattle.world.specs.declared.sent.Sent.{Sent}
 use Rattle.world.specs.declared.world.World as code
-use Rattle.world.specs.Datagrams.{datagrams, spelled, SentStandsFor}
+use Rattle.world.specs.Datagrams.{datagrams, spelled, kept_as, WasSendable, SentStandsFor}
 use Rattle.world.specs.Deeds.{IsDeed}
-use Rattle.world.specs.Kept.{kept_cause, is_of, are_of, IsFresh}
+use Rattle.world.specs.NodeConditions.{kept_cause, is_of, are_of, IsFresh}
 use Rattle.world.specs.StandsFor.{NodeStandsFor, StandsFor, IsSame}
 use Rattle.world.proofs.Histories.{cause_kept, next_other}
 
@@ -46,10 +48,6 @@ after (z ∷ xs) (suc i) x (suc j) y e = go (after xs i x j y e)
     go : After xs i x j y → After (z ∷ xs) (suc i) x (suc j) y
     go (Written same new) = Written (ap suc same) new
     go (Left other old) = Left (omega arith) old
-
-all_append : {X : Type 0} (P : X → Type 0) (xs ys : List X) → AllByRecursion P xs → AllByRecursion P ys → AllByRecursion P (xs ++ ys)
-all_append P [] ys all more = more
-all_append P (x ∷ xs) ys all more = (all.0, all_append P xs ys all.1 more)
 
 and_left : (a b : Bool) → (a && b) ≡ true → a ≡ true
 and_left true b e = refl
@@ -83,16 +81,24 @@ if_err (Err e) p = p
 
 -- ---- what is sent
 
-pub same_sent : (team : Team) (a b : Sent) (sent : List (ℕ × Datagram)) → b.bytes.items ≡ a.bytes.items → b.places.items ≡ a.places.items → SentStandsFor team a sent → SentStandsFor team b sent
+pub same_sent : (team : Team) (a b : Sent) (sent : List Dispatch) → b.bytes.items ≡ a.bytes.items → b.places.items ≡ a.places.items → SentStandsFor team a sent → SentStandsFor team b sent
 same_sent team a b sent bytes places stands = record { spelled = rw (bytes, places) stands.spelled; fits = stands.fits }
+
+timed_spelled : (line t : ℕ) (sends : List (ℕ × Datagram)) → map (spelled line) sends ≡ map (kept_as line) (map (sent_at t) sends)
+timed_spelled line t [] = refl
+timed_spelled line t (d ∷ sends) = ap (λ xs. spelled line d ∷ xs) (timed_spelled line t sends)
+
+timed_fits : (n t : ℕ) (sends : List (ℕ × Datagram)) → AllByRecursion (IsSendable n) sends → AllByRecursion (WasSendable n) (map (sent_at t) sends)
+timed_fits n t sends fits = all_mapped (WasSendable n) (sent_at t) sends fits
 
 -- what was sent with one step more
 pub next_sent : (team : Team) (a b : Sent) (past : List Step) (s : Step) (sends : List (ℕ × Datagram)) → SentStandsFor team a (world team past).sent → sends ≡ (deed_in team (world team past) s).out.sends
     → datagrams b ≡ datagrams a ++ map (spelled team.line) sends → AllByRecursion (IsSendable team.n) sends → SentStandsFor team b (world team (s ∷ past)).sent
 next_sent team a b past s sends stands is kept fits =
-    subst (λ (xs : List (ℕ × Datagram)). SentStandsFor team b ((world team past).sent ++ xs)) is (record {
-      spelled = kept ∙ ap (λ xs. xs ++ map (spelled team.line) sends) stands.spelled ∙ sym (map-append (spelled team.line) (world team past).sent sends);
-      fits = all_append (IsSendable team.n) (world team past).sent sends stands.fits fits;
+    subst (λ (xs : List (ℕ × Datagram)). SentStandsFor team b ((world team past).sent ++ map (sent_at s.t) xs)) is (record {
+      spelled = kept ∙ ap (λ xs. xs ++ map (spelled team.line) sends) stands.spelled ∙ ap (λ xs. map (kept_as team.line) (world team past).sent ++ xs) (timed_spelled team.line s.t sends)
+          ∙ sym (map-append (kept_as team.line) (world team past).sent (map (sent_at s.t) sends));
+      fits = all_joined (WasSendable team.n) (world team past).sent (map (sent_at s.t) sends) stands.fits (timed_fits team.n s.t sends fits);
     })
 
 -- ---- the whole
@@ -142,11 +148,8 @@ pub there : (xs : List Node) (i who : ℕ) (p : Node) → i ≡ who → who < le
 there xs i who p same low e = found xs who p low (rw (sym same) e)
 
 -- a process that was never started, before the first step
-pub fresh_of : (n : ℕ) (p : Node) → IsFresh p → is_of n p ≡ true
-fresh_of n p fresh = rw fresh.core refl
-
 pub fresh_stands : (team : Team) (who : ℕ) (p : Node) → IsFresh p → NodeStandsFor team [] who p
-fresh_stands team who p fresh = record { readings = fresh.readings; started = fresh.started; running = rw fresh.core tt; known = λ k all. tt }
+fresh_stands team who p fresh = record { bounds = rw fresh.bounds refl; started = fresh.started; running = rw fresh.core tt; known = λ k all. tt }
 
 pub all_get : {X : Type 0} (P : X → Type 0) (xs : List X) (i : ℕ) (x : X) → AllByRecursion P xs → slice_get xs i ≡ Some x → P x
 all_get P [] i x all e = absurd (cc)
@@ -157,5 +160,5 @@ pub nothing_sent : (team : Team) (kept : Sent) → kept.places.items ≡ [] → 
 nothing_sent team kept e = record { spelled = rw e refl; fits = tt }
 
 -- as many datagrams are kept as were sent
-pub as_many : (team : Team) (kept : Sent) (sent : List (ℕ × Datagram)) → SentStandsFor team kept sent → length kept.places.items ≡ length sent
+pub as_many : (team : Team) (kept : Sent) (sent : List Dispatch) → SentStandsFor team kept sent → length kept.places.items ≡ length sent
 as_many team kept sent stands = simp length-map at (ap length stands.spelled)

@@ -16,6 +16,6 @@ cause_told refused.Reference = Some OutsideReference
 cause_told refused.WantOfMemory = None
 
 -- the cause that is told, if a step is refused
-abbrev pub told : Option Refused → Option Cause
-told None = None
-told (Some why) = cause_told why
+abbrev pub cause_if : Option Refused → Option Cause
+cause_if None = None
+cause_if (Some why) = cause_told why

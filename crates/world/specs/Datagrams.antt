@@ -1,9 +1,10 @@
 -- The bytes of the datagrams that were sent.
-use Rattle.std.specs.Prelude.{ℕ, zero, suc, ◌+◌, ◌*◌, ◌≤◌, ◌≡◌, ◌==◌, Bool, false, List, map, Option, Some, None, slice_get, slice_range, vec_len, vec_capacity}
+use Rattle.std.specs.Prelude.{ℕ, ◌+◌, ◌*◌, ◌≤◌, ◌≡◌, ◌==◌, Bool, false, List, map, Option, Some, None, slice_range, vec_len, vec_capacity}
 use Rattle.std.specs.List.{AllByRecursion}
 use Rattle.tw_types.specs.declared.team.Team.{Team}
 use Rattle.tw_types.specs.declared.datagram.Datagram.{Datagram}
 use Rattle.tw_types.specs.Spelling.{spelling}
+use Rattle.tw_machine.specs.Dispatches.{Dispatch}
 use Rattle.node_core.specs.Sends.{IsSendable}
 use Rattle.world.specs.declared.sent.Place.{Place}
 use Rattle.world.specs.declared.sent.Sent.{Sent}
@@ -21,11 +22,6 @@ pub record HasRoom (k : ℕ) (s : Sent) : Type 0 where
   pub bytes : vec_len s.bytes + k * 4096 ≤ vec_capacity s.bytes
   pub places : vec_len s.places + k ≤ vec_capacity s.places
 
--- the item of this number, counted from 1
-abbrev pub numbered : {X : Type 0} → ℕ → List X → Option X
-numbered zero xs = None
-numbered (suc i) xs = slice_get xs i
-
 -- a place is that of a datagram to this process
 abbrev pub is_to : ℕ → Option Place → Bool
 is_to who None = false
@@ -35,7 +31,14 @@ is_to who (Some p) = p.to == who
 abbrev pub spelled : ℕ → ℕ × Datagram → ℕ × List ℕ
 spelled line s = (s.0, spelling line s.1)
 
+-- the same of one that was sent before
+abbrev pub kept_as : ℕ → Dispatch → ℕ × List ℕ
+kept_as line d = spelled line (d.to, d.datagram)
+
+abbrev pub WasSendable : ℕ → Dispatch → Type 0
+WasSendable n d = IsSendable n (d.to, d.datagram)
+
 -- what is kept is what these datagrams spell, each of which a process of the team may send
-pub record SentStandsFor (team : Team) (kept : Sent) (sent : List (ℕ × Datagram)) : Type 0 where
-  pub spelled : datagrams kept ≡ map (spelled team.line) sent
-  pub fits : AllByRecursion (IsSendable team.n) sent
+pub record SentStandsFor (team : Team) (kept : Sent) (sent : List Dispatch) : Type 0 where
+  pub spelled : datagrams kept ≡ map (kept_as team.line) sent
+  pub fits : AllByRecursion (WasSendable team.n) sent

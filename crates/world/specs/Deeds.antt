@@ -41,12 +41,11 @@ IsReady team who h (Send order atom payload) c before = ⊥
 IsReady team who h (Reference lo hi) c before = RunsAs team c before × NotBefore h before × IsSome before
 IsReady team who h Look c before = RunsAs team c before × NotBefore h before × IsSome before
 
--- The core took an event at h that happened to this process, and a look at h changes nothing then.
+-- The core took an event at h that happened to this process.
 pub record HasTaken (team : Team) (h : ℕ) (e : Event) (c : Core) (a : Answer) (o : Outputs) (p : Process) : Type 0 where
   pub process : core.StandsFor c (step team h e p).process
   pub answer : a ≡ (step team h e p).answer
   pub out : o ≡ (step team h e p).out
-  pub settled : looked team h (step team h e p).process ≡ (step team h e p).process
 
 -- what an act came to, before the process is looked at: looking at it is all that is left
 pub record IsDone (team : Team) (h : ℕ) (c : Core) (a : RowAnswer) (o : Outputs) (d : Deed) : Type 0 where

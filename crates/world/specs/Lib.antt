@@ -1,7 +1,8 @@
 pub mod Places
 pub mod Datagrams
 pub mod Readings
+pub mod Bounds
 pub mod Causes
-pub mod Kept
+pub mod NodeConditions
 pub mod Deeds
 pub mod StandsFor

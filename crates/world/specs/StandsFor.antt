@@ -7,6 +7,7 @@ use Rattle.tw_machine.specs.Admissible.{each_own, was_started}
 use Rattle.tw_machine.specs.World.{world, Admissible}
 use Rattle.world.specs.declared.node.Node.{Node}
 use Rattle.world.specs.declared.world.World as code
+use Rattle.world.specs.Bounds.{AreBoundsOf}
 use Rattle.world.specs.Datagrams.{SentStandsFor}
 use Rattle.world.specs.Deeds.{RunsAs, NotBefore}
 use Rattle.world.specs.Readings.{readings_of, latest_of}
@@ -15,9 +16,9 @@ use Rattle.world.specs.Readings.{readings_of, latest_of}
 abbrev pub IsKnown : ℕ → List Step → Option Process → Type 0
 IsKnown who past q = (h : ℕ) → each_own (λ e. nat_le e.h h) who past ≡ true → NotBefore h q
 
--- what is kept of a process: all its readings, whether it was ever started, and what runs of it
+-- what is kept of a process: the bounds of all its readings, whether it was ever started, and what runs of it
 pub record NodeStandsFor (team : Team) (past : List Step) (who : ℕ) (p : Node) : Type 0 where
-  pub readings : p.readings ≡ readings_of who past
+  pub bounds : AreBoundsOf team.ppm p.bounds (readings_of who past)
   pub started : p.started ≡ was_started who past
   pub running : RunsAs team p.core ((world team past).process_of who)
   pub known : IsKnown who past ((world team past).process_of who)

@@ -1,12 +1,12 @@
 //! The processes of a team under a schedule.
 //!
 //! Rules held here: which step may follow the steps before it; what a step makes of its process, and its row; what a process
-//! receives is the bytes of the datagram that was sent. Every refusal leaves the world and the row as they were. The timed
-//! model is Cristian and Fetzer's.
+//! receives is the bytes of the datagram that was sent. Every refusal leaves the world and the row as they were. Of a process's
+//! readings the world keeps the last and two bounds, however many they are. The timed model is Cristian and Fetzer's.
 #![tactic(auto)]
 
+mod bounds;
 mod node;
-mod readings;
 mod refused;
 mod sent;
 mod world;

@@ -12,6 +12,7 @@ ghost use Rattle.tw_types.specs.Team.{IsSound};
 ghost use Rattle.tw_machine.specs.Admissible.{is_start, holds_time};
 ghost use Rattle.tw_types.specs.Outputs.{nothing};
 ghost use Rattle.tw_machine.specs.Admissible.{may_receive};
+ghost use Rattle.tw_machine.specs.Dispatches.{Dispatch};
 ghost use Rattle.tw_machine.specs.Event.{Packet};
 ghost use Rattle.tw_machine.specs.Grammar.{IsAct};
 ghost use Rattle.tw_machine.specs.World.{row_answer, deed};
@@ -20,7 +21,7 @@ ghost use Rattle.node_core.specs.StandsFor.{StandsFor};
 ghost use Rattle.world.specs.Datagrams.{SentStandsFor};
 ghost use Rattle.world.specs.Deeds.{IsReady, HasTaken, IsDone, IsDeed};
 
-use crate::readings::Readings;
+use crate::bounds::Bounds;
 use crate::refused::Refused;
 use crate::sent::Sent;
 use node_core::{Core, Event};
@@ -28,10 +29,11 @@ use std::alloc::Global;
 use tw_num::WantOfMemory;
 use tw_types::{Act, Answer, Mode, Outputs, RowAnswer, Step, Team, View};
 
-/// What is kept of a process: all its readings, whether it was ever started, and what runs of it.
+/// What is kept of a process: the bounds of all its readings, over all its lives, whether it was ever started, and what runs of
+/// it.
 #[derive(Debug, Drop)]
 pub struct Node {
-    pub readings: Readings,
+    pub bounds: Option<Bounds>,
     pub started: bool,
     pub core: Option<Core>,
 }
@@ -62,48 +64,55 @@ fn row_answer(answer: Answer) -> RowAnswer
 }
 
 impl Node {
-    ghost use Rattle.std.specs.Prelude.{◌≡◌, ◌≤◌, ◌<◌, ◌^◌, ◌||◌, ◌++◌, ◌∷◌, [], ℕ, List, true, is_some, Option, OnOk, OnErr};
+    ghost use Rattle.std.specs.Prelude.{◌≡◌, ◌≤◌, ◌<◌, ◌^◌, ◌||◌, ◌∷◌, ℕ, List, true, is_some, Option, OnOk, OnErr};
     ghost use Rattle.std.specs.List.{AllByRecursion};
     ghost use Rattle.tw_types.specs.declared.team.Team.{Team as TeamSeen};
-    ghost use Rattle.tw_types.specs.declared.datagram.Datagram.{Datagram};
     ghost use Rattle.tw_types.specs.Process.{Process};
     ghost use Rattle.tw_types.specs.Team.{IsSound};
     ghost use Rattle.tw_machine.specs.Admissible.{is_start, may_receive};
+    ghost use Rattle.tw_machine.specs.Dispatches.{Dispatch};
     ghost use Rattle.tw_machine.specs.Grammar.{IsAct};
     ghost use Rattle.tw_machine.specs.Schedule.{is_built};
     ghost use Rattle.tw_machine.specs.World.{deed};
     ghost use Rattle.node_core.specs.Sends.{IsSendable};
-    ghost use Rattle.world.specs.Causes.{told};
-    ghost use Rattle.world.specs.Kept.{kept_cause, is_of, IsFresh};
+    ghost use Rattle.world.specs.Bounds.{AreBoundsOf, admits, is_above};
+    ghost use Rattle.world.specs.Causes.{cause_if};
+    ghost use Rattle.world.specs.NodeConditions.{kept_cause, is_of};
     ghost use Rattle.world.specs.Datagrams.{SentStandsFor};
     ghost use Rattle.world.specs.Deeds.{RunsAs, NotBefore, IsReady, IsDeed};
+    ghost use Rattle.world.specs.Readings.{Reading};
 
-    /// A process that was never started.
-    pub fn new(alloc: Global) -> Node
-        ensures { IsFresh result }
+    /// Whether the step's reading may follow all earlier ones of the process, none of which is at a later team time.
+    fn keeps_drift(&self, ppm: u64, step: &Step) -> bool
+        requires { ppm ≤ 1000 }
+        ensures { result ≡ admits ppm self.now.bounds step.now.t step.now.h }
     {
-        Node {
-            readings: Readings::new(alloc),
-            started: false,
-            core: None,
-        }
+        self.bounds
+            .is_none_or(|bounds| bounds.admit(ppm, step.t, step.h))
+    }
+
+    /// Whether each reading of the process is below `h`.
+    fn is_below(&self, h: u64) -> bool
+        ensures { result ≡ is_above self.now.bounds h }
+    {
+        self.bounds.is_none_or(|bounds| bounds.last < h)
     }
 
     /// Why the process can't take the step, after steps of which the last was at team time `latest`; `received` says whether
     /// what the step receives was sent to it.
     pub fn refusal(&self, ppm: u64, latest: u64, received: bool, step: &Step) -> Option<Refused>
         requires { ppm ≤ 1000 }
-        ensures { told result ≡ kept_cause ppm latest received self.now step.now }
+        ensures { cause_if result ≡ kept_cause ppm latest received self.now step.now }
     {
         if step.t < latest {
             return Some(Refused::Time);
         }
-        if !self.readings.keep_drift(ppm, step) {
+        if !self.keeps_drift(ppm, step) {
             return Some(Refused::Drift);
         }
         if is_start(&step.act) {
             if self.core.is_some()
-                || !self.readings.are_below(step.h)
+                || !self.is_below(step.h)
                 || (step.act == Act::First && self.started)
             {
                 return Some(Refused::Start);
@@ -126,21 +135,22 @@ impl Node {
         requires who { step.now.who < team.now.n }
         requires h { step.now.h < 2 ^ 60 }
         requires built { is_built step.now.act ≡ true }
-        ensures readings { OnOk result (self.new.readings ≡ self.old.readings ++ record { t = step.now.t; h = step.now.h } ∷ []) }
+        ensures bounds { OnOk result ((readings : List Reading) → AllByRecursion (λ r. r.h ≤ step.now.h) readings →
+            AreBoundsOf team.now.ppm self.old.bounds readings →
+            AreBoundsOf team.now.ppm self.new.bounds (record { t = step.now.t; h = step.now.h } ∷ readings)) }
         ensures started { OnOk result (self.new.started ≡ (self.old.started || is_start step.now.act)) }
         ensures ready { OnOk result ((before : Option Process) → RunsAs team.now self.old.core before → NotBefore step.now.h before →
             (is_start step.now.act || is_some self.old.core) ≡ true → IsReady team.now step.now.who step.now.h step.now.act self.new.core before) }
         ensures same_team { is_of team.now.n self.old ≡ true → is_of team.now.n self.new ≡ true }
         ensures same { OnErr result (self.new ≡ self.old) }
     {
+        let bounds = Bounds::of(team.ppm, step.t, step.h).widened(self.bounds);
         if is_start(&step.act) {
             let core = Core::new(alloc, *team, step.who, Mode::First, step.h)?;
-            self.readings.note(step)?;
             self.started = true;
             self.core = Some(core);
-        } else {
-            self.readings.note(step)?;
         }
+        self.bounds = Some(bounds);
         Ok(())
     }
 
@@ -149,13 +159,13 @@ impl Node {
     pub fn act(&mut self, step: &Step, sent: &Sent, out: &mut Outputs) -> (RowAnswer, View)
         requires h { step.now.h < 2 ^ 60 }
         requires act { IsAct step.now.act }
-        ensures deed { (team : TeamSeen) (before : Option Process) (datagrams : List (ℕ × Datagram)) → IsSound team → team.line < 2 ^ 32 →
+        ensures deed { (team : TeamSeen) (before : Option Process) (datagrams : List Dispatch) → IsSound team → team.line < 2 ^ 32 →
             SentStandsFor team sent.now datagrams → may_receive datagrams step.now step.now.act ≡ true →
             IsReady team step.now.who step.now.h step.now.act self.old.core before →
             IsDeed team step.now.h self.new.core result.0 result.1 out.new before (deed team step.now.who step.now.h datagrams step.now.act before) }
         ensures fits { (n : ℕ) → is_of n self.old ≡ true → AllByRecursion (IsSendable n) out.new.sends }
         ensures same_team { (n : ℕ) → is_of n self.old ≡ true → is_of n self.new ≡ true }
-        ensures readings { self.new.readings ≡ self.old.readings }
+        ensures bounds { self.new.bounds ≡ self.old.bounds }
         ensures started { self.new.started ≡ self.old.started }
     {
         match &mut self.core {
@@ -198,7 +208,7 @@ fn receive(core: &mut Core, bytes: &[u8], h: u64, out: &mut Outputs) -> Answer
 fn happen(core: &mut Core, step: &Step, sent: &Sent, out: &mut Outputs) -> RowAnswer
     requires h { step.now.h < 2 ^ 60 }
     requires act { IsAct step.now.act }
-    ensures done { (team : TeamSeen) (before : Option Process) (datagrams : List (ℕ × Datagram)) → IsSound team → team.line < 2 ^ 32 →
+    ensures done { (team : TeamSeen) (before : Option Process) (datagrams : List Dispatch) → IsSound team → team.line < 2 ^ 32 →
         SentStandsFor team sent.now datagrams → may_receive datagrams step.now step.now.act ≡ true →
         IsReady team step.now.who step.now.h step.now.act (Some core.old) before →
         IsDone team step.now.h core.new result out.new (deed team step.now.who step.now.h datagrams step.now.act before) }
@@ -232,7 +242,7 @@ fn silent(answer: RowAnswer, out: &mut Outputs) -> RowAnswer
 fn act(core: &mut Core, step: &Step, sent: &Sent, out: &mut Outputs) -> (RowAnswer, View)
     requires h { step.now.h < 2 ^ 60 }
     requires act { IsAct step.now.act }
-    ensures deed { (team : TeamSeen) (before : Option Process) (datagrams : List (ℕ × Datagram)) → IsSound team → team.line < 2 ^ 32 →
+    ensures deed { (team : TeamSeen) (before : Option Process) (datagrams : List Dispatch) → IsSound team → team.line < 2 ^ 32 →
         SentStandsFor team sent.now datagrams → may_receive datagrams step.now step.now.act ≡ true →
         IsReady team step.now.who step.now.h step.now.act (Some core.old) before →
         IsDeed team step.now.h (Some core.new) result.0 result.1 out.new before (deed team step.now.who step.now.h datagrams step.now.act before) }

@@ -37,11 +37,12 @@ pub struct Sent {
 impl Sent {
     ghost use Rattle.std.specs.Prelude.{◌≡◌, ◌+◌, ◌<◌, ◌≤◌, ◌++◌, ℕ, List, [], ◌∷◌, map, length, vec_len, true, OnOk, IfSome, Some};
     ghost use Rattle.std.specs.List.{AllByRecursion};
-    ghost use Rattle.tw_types.specs.declared.datagram.Datagram.{Datagram as DatagramSeen};
+    ghost use Rattle.tw_types.specs.Numbered.{numbered};
+    ghost use Rattle.tw_machine.specs.Dispatches.{Dispatch};
     ghost use Rattle.tw_machine.specs.Admissible.{may_receive};
     ghost use Rattle.node_core.specs.Sends.{IsSendable};
     ghost use Rattle.world.specs.Places.{is_within};
-    ghost use Rattle.world.specs.Datagrams.{datagrams, HasRoom, numbered, is_to, spelled};
+    ghost use Rattle.world.specs.Datagrams.{datagrams, HasRoom, is_to, spelled, kept_as};
 
     /// Nothing was sent.
     pub fn new(alloc: Global) -> Sent
@@ -131,7 +132,7 @@ impl Sent {
 
     /// Whether the datagram that the step receives, if it receives one, was sent to its process.
     pub fn may_receive(&self, step: &Step) -> bool
-        ensures { (line : ℕ) (sent : List (ℕ × DatagramSeen)) → datagrams self.now ≡ map (spelled line) sent →
+        ensures { (line : ℕ) (sent : List Dispatch) → datagrams self.now ≡ map (kept_as line) sent →
             result ≡ may_receive sent step.now step.now.act }
     {
         match step.act {

@@ -24,6 +24,16 @@ const TEAM: Team = Team {
     theta: 30_000,
 };
 
+/// The same team, but for clocks that drift by up to one part in a thousand.
+const DRIFTING: Team = Team {
+    ppm: 1000,
+    quarantine: 1_105_108,
+    ..TEAM
+};
+
+/// The last team time and the last reading that a schedule may have.
+const LAST: u64 = (1 << 60) - 1;
+
 /// A schedule of the team, and the row of its last step.
 #[derive(Drop)]
 struct Schedule {
@@ -58,6 +68,18 @@ impl Schedule {
         let t = t.into();
         let h = h.into();
         let step = Step { t, who, h, act };
+        self.world.apply(&step, &mut self.row).err()
+    }
+
+    /// Takes a step of process 0 at its reading `h`, and answers why it is refused.
+    fn reads(&mut self, t: u64, h: u64, act: Act) -> Option<Refused>
+        requires act { IsAct act }
+        requires built { is_built act ≡ true }
+    {
+        if self.world.steps() >= 100_000 || self.world.team().n == 0 || h > LAST {
+            return Some(Refused::WantOfMemory);
+        }
+        let step = Step { t, who: 0, h, act };
         self.world.apply(&step, &mut self.row).err()
     }
 
@@ -229,6 +251,25 @@ fn sync(
     )
 }
 
+/// Whether a look at the last of these readings, `h` at `t`, ends so after a start at the first and looks at the two between.
+fn ends(
+    alloc: Global,
+    readings: [(u64, u64); 4],
+    refused: Option<Refused>,
+) -> Result<bool, WantOfMemory> {
+    let mut s = Schedule {
+        world: World::new(alloc, DRIFTING)?,
+        row: Row::new(alloc)?,
+    };
+    let [first, second, third, last] = readings;
+    Ok(
+        s.reads(first.0, first.1, Act::First).is_none()
+            && s.reads(second.0, second.1, Act::Look).is_none()
+            && s.reads(third.0, third.1, Act::Look).is_none()
+            && s.reads(last.0, last.1, Act::Look) == refused,
+    )
+}
+
 fn interval(lo: u64, hi: u64) -> Option<Interval> {
     Some(Interval { lo, hi })
 }
@@ -270,6 +311,59 @@ fn drift_adds_up(rt: HostRuntime) -> Result<(), Fail> {
     assert_eq!(rt; s.take_at(6, 0, 7, Act::Look), None);
     assert!(rt; s.refuses(7, 0, 9, Act::Look, Refused::Drift));
     assert_eq!(rt; s.take_at(7, 0, 8, Act::Look), None);
+    Ok(())
+}
+
+/// Each bound met and missed by one tick. Of whole readings the last one always has one of the two bounds: in the first table
+/// the second reading has the least and the third the greatest, and in the second table the other way round.
+#[test]
+fn each_bound_is_of_another_reading(rt: HostRuntime) -> Result<(), Fail> {
+    let slow = [(0, 0), (10_000, 9_989), (20_000, 20_000)];
+    let fast = [(0, 0), (10_000, 10_011), (20_000, 20_000)];
+    let table = [
+        (slow, 30_010, None),
+        (slow, 30_011, Some(Refused::Drift)),
+        (slow, 29_989, None),
+        (slow, 29_988, Some(Refused::Drift)),
+        (fast, 30_011, None),
+        (fast, 30_012, Some(Refused::Drift)),
+        (fast, 29_990, None),
+        (fast, 29_989, Some(Refused::Drift)),
+    ];
+    for ([first, second, third], h, refused) in table {
+        assert!(rt; ends(rt.alloc(), [first, second, third, (30_000, h)], refused)?);
+    }
+    Ok(())
+}
+
+/// The same at the ends of the range: bounds met and missed at the last time and the last reading, and over all of the range.
+#[test]
+fn each_bound_reaches_the_ends(rt: HostRuntime) -> Result<(), Fail> {
+    let near = [
+        ([30_010, 20_021, 10_010], None),
+        ([30_011, 20_022, 10_011], Some(Refused::Drift)),
+        ([29_989, 20_000, 9_989], None),
+        ([29_988, 19_999, 9_988], Some(Refused::Drift)),
+    ];
+    for ([first, second, third], refused) in near {
+        let readings = [
+            (LAST - 30_000, LAST - first),
+            (LAST - 20_000, LAST - second),
+            (LAST - 10_000, LAST - third),
+            (LAST, LAST),
+        ];
+        assert!(rt; ends(rt.alloc(), readings, refused)?);
+    }
+    let far = [
+        (LAST, LAST, None),
+        (LAST, 1_151_768_583_102_240_128, None),
+        (LAST, 1_151_768_583_102_240_127, Some(Refused::Drift)),
+        (1_151_769_734_871_975_000, LAST, None),
+        (1_151_769_734_871_974_999, LAST, Some(Refused::Drift)),
+    ];
+    for (t, h, refused) in far {
+        assert!(rt; ends(rt.alloc(), [(0, 0), (0, 0), (0, 0), (t, h)], refused)?);
+    }
     Ok(())
 }
 

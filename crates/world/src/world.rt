@@ -4,7 +4,7 @@ ghost use Rattle.std.specs.Prelude.{◌≡◌, ◌<◌, ◌≤◌, ◌*◌, ◌^
 ghost use Rattle.std.proofs.Props.{props};
 ghost use Rattle.tw_types.specs.Team.{IsSound};
 ghost use Rattle.tw_machine.specs.Rows.{line_by};
-ghost use Rattle.world.specs.Kept.{are_of};
+ghost use Rattle.world.specs.NodeConditions.{are_of};
 
 use crate::node::Node;
 use crate::refused::Refused;
@@ -59,7 +59,7 @@ impl World {
     ghost use Rattle.tw_machine.specs.Schedule.{is_built};
     ghost use Rattle.tw_machine.specs.World.{world};
     ghost use Rattle.tw_machine.specs.Rows.{row_of};
-    ghost use Rattle.world.specs.Causes.{cause_told, told};
+    ghost use Rattle.world.specs.Causes.{cause_told, cause_if};
     ghost use Rattle.world.specs.StandsFor.{StandsFor, IsSame};
 
     /// A sound team before the first step: no process runs, and nothing was sent.
@@ -71,7 +71,11 @@ impl World {
     {
         let mut processes = Vec::new(alloc);
         for _who in 0..team.n {
-            processes.push(Node::new(alloc))?;
+            processes.push(Node {
+                bounds: None,
+                started: false,
+                core: None,
+            })?;
         }
         Ok(World {
             alloc,
@@ -102,7 +106,7 @@ impl World {
     fn refusal(&self, step: &Step) -> Option<Refused>
         requires who { step.now.who < self.now.team.n }
         ensures { (team : TeamSeen) (past : List StepSeen) → StandsFor team past self.now →
-            told result ≡ cause_of team (world team past).sent past step.now }
+            cause_if result ≡ cause_of team (world team past).sent past step.now }
     {
         let received = self.sent.may_receive(step);
         let node = &self.processes[usize::from(step.who)];

@@ -1,10 +1,6 @@
 -- The law of the delays.
-use Rattle.tw_machine.proofs.History.{dispatches_are_sent}
-use Rattle.tw_machine.proofs.DelayLaw.{receipt_found, sent_before, echo_covers, interval_covers, rate_covers, given_holds}
+use Rattle.tw_machine.proofs.DelayLaw.{receipt_found, sent_before, echo_covers, interval_covers, rate_covers, timely_covers, given_holds}
 use Rattle.tw_machine.proofs.laws.bounds_cover_every_delay.Goals as goal
-
-pub returns-clause-sent : goal.returns-clause-sent
-returns-clause-sent c = dispatches_are_sent
 
 pub returns-clause-receipt : goal.returns-clause-receipt
 returns-clause-receipt c = receipt_found
@@ -20,6 +16,9 @@ returns-clause-interval c = interval_covers
 
 pub returns-clause-rate : goal.returns-clause-rate
 returns-clause-rate c = rate_covers
+
+pub returns-clause-timely : goal.returns-clause-timely
+returns-clause-timely c = timely_covers
 
 pub returns-clause-told : goal.returns-clause-told
 returns-clause-told c = given_holds

@@ -12,7 +12,7 @@ pub returns-clause-reading : goal.returns-clause-reading
 returns-clause-reading c = reads_well
 
 pub returns-clause-rows : goal.returns-clause-rows
-returns-clause-rows c = λ team past sound ok built. rows_read_well team past (reads_well team past sound ok built)
+returns-clause-rows c = λ team past sound ok. rows_read_well team past (reads_well team past sound ok)
 
 pub returns-clause-disjoint : goal.returns-clause-disjoint
 returns-clause-disjoint c = none_disjoint

@@ -1,10 +1,9 @@
-use Rattle.tw_machine.specs.Event.{Tick, Reference}
 use Rattle.world.proofs.Acts.{tick_done, receive_done, reference_done}
 use Rattle.world.proofs.node.happen.Goals as goal
 
 pub returns-in-Tick-clause-done : goal.returns-in-Tick-clause-done
 returns-in-Tick-clause-done c = λ team before sent sound line stands there ready. rw c.row_answer.ensures (tick_done team c.args.step.now.who c.args.step.now.h c.args.step.now.act sent c.args.core.now c.step.new.self c.step.result c.step.new.out before
-    c.in-Tick.is ready c.step.ensures.team (λ p s k. record { process = c.step.ensures.stands p s k; answer = c.step.ensures.answer p s k; out = c.step.ensures.out p s k; settled = c.step.ensures.settled c.args.core.now.team Tick p }))
+    c.in-Tick.is ready c.step.ensures.team (λ p s k. record { process = c.step.ensures.stands p s k; answer = c.step.ensures.answer p s k; out = c.step.ensures.out p s k }))
 
 pub returns-in-Recv-clause-done : goal.returns-in-Recv-clause-done
 returns-in-Recv-clause-done c = λ team before sent sound line stands there ready. rw c.row_answer-in-Recv.ensures (receive_done team c.args.step.now.who c.args.step.now.h c.in-Recv.number c.args.step.now.act c.args.sent.now sent c.bytes.result.now
@@ -14,4 +13,4 @@ returns-in-Recv-clause-done c = λ team before sent sound line stands there read
 pub returns-in-Reference-clause-done : goal.returns-in-Reference-clause-done
 returns-in-Reference-clause-done c = λ team before sent sound line stands there ready. rw c.row_answer-in-Reference.ensures (reference_done team c.args.step.now.who c.args.step.now.h c.in-Reference.lo c.in-Reference.hi c.args.step.now.act sent c.args.core.now
     c.step-in-Reference.new.self c.step-in-Reference.result c.step-in-Reference.new.out before c.in-Reference.is ready c.step-in-Reference.ensures.team
-    (λ p s k. record { process = c.step-in-Reference.ensures.stands p s k; answer = c.step-in-Reference.ensures.answer p s k; out = c.step-in-Reference.ensures.out p s k; settled = c.step-in-Reference.ensures.settled c.args.core.now.team (Reference c.in-Reference.lo c.in-Reference.hi) p }))
+    (λ p s k. record { process = c.step-in-Reference.ensures.stands p s k; answer = c.step-in-Reference.ensures.answer p s k; out = c.step-in-Reference.ensures.out p s k }))

@@ -13,4 +13,4 @@ returns-clause-received c = λ team d p sound line fits spelled same stands know
     let read : datagram_at team c.args.bytes.now ≡ Ok d = datagram_again team c.args.bytes.now line (omega (arith, sound.at_most_fifteen)) (λ i. omega (arith, c.type_inv.bytes i)) d fits spelled in
     subst (λ (r : Result Datagram WireFault). HasTaken team c.args.h (Packet r) c.step.new.self c.step.result c.step.new.out p) read
     (subst (λ (t : Team). HasTaken t c.args.h (Packet (datagram_at t c.args.bytes.now)) c.step.new.self c.step.result c.step.new.out p) same
-    (record { process = c.step.ensures.stands p stands known; answer = c.step.ensures.answer p stands known; out = c.step.ensures.out p stands known; settled = c.step.ensures.settled c.args.core.now.team (Packet (datagram_at c.args.core.now.team c.args.bytes.now)) p }))
+    (record { process = c.step.ensures.stands p stands known; answer = c.step.ensures.answer p stands known; out = c.step.ensures.out p stands known }))

@@ -1,5 +1,5 @@
 use Rattle.std.proofs.Common.{◌≡◌, ◌∙◌, arith, None}
-use Rattle.clock_sync.proofs.Kept.{interval_kept}
+use Rattle.clock_sync.proofs.KeptClock.{interval_kept}
 use Rattle.clock_sync.proofs.team_clock.TeamClock.interval.Goals as goal
 
 pub returns-clause-exact : goal.returns-clause-exact

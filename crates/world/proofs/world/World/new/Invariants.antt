@@ -1,6 +1,6 @@
 use Rattle.std.proofs.Common.{◌≡◌, true, vec_len}
 use Rattle.std.specs.List.{AllByRecursion}
-use Rattle.world.specs.Kept.{IsFresh, are_of}
+use Rattle.world.specs.NodeConditions.{IsFresh, are_of}
 use Rattle.world.proofs.world.World.new.Given as goal
 
 abbrev pub invariant-loop-who : goal.invariant-loop-who

@@ -1,4 +1,4 @@
-use Rattle.std.proofs.Common.{◌≡◌, ◌∙◌, ◌<◌, ◌^◌, ◌+◌, ◌++◌, refl, ap, subst, length, map, Option, arith}
+use Rattle.std.proofs.Common.{◌≡◌, ◌∙◌, ◌<◌, ◌^◌, ◌+◌, ◌++◌, ◌∷◌, refl, sym, ap, subst, length, map, Option, arith}
 use Rattle.std.specs.List.{AllByRecursion}
 use Rattle.tw_types.specs.declared.team.Team.{Team}
 use Rattle.tw_types.specs.Team.{IsSound}
@@ -8,7 +8,9 @@ use Rattle.node_core.specs.Sends.{IsSendable}
 use Rattle.world.specs.Deeds.{RunsAs, IsReady}
 use Rattle.world.specs.Datagrams.{datagrams, spelled}
 use Rattle.world.specs.StandsFor.{NodeStandsFor}
-use Rattle.world.proofs.Histories.{given_before, runs_before, received_before, next_own}
+use Rattle.world.specs.Bounds.{AreBoundsOf}
+use Rattle.world.specs.Readings.{readings_of}
+use Rattle.world.proofs.Histories.{given_before, runs_before, received_before, readings_not_above, next_own}
 use Rattle.world.proofs.Worlds.{there, one_of, all_written, same_sent, next_sent, next_world, next_row, as_many}
 use Rattle.world.proofs.world.World.take.Goals as goal
 
@@ -32,8 +34,13 @@ returns-clause-taken c = λ team past stands none.
     let sound : IsSound team = subst IsSound stands.same_team c.args.self.now.sound in
     let line : team.line < 2 ^ 32 = subst (λ (t : Team). t.line < 2 ^ 32) stands.same_team c.args.self.now.line in
     let deed = c.act-answer.ensures.deed team before (world team past).sent sound line sent (received_before team (world team past).sent past c.args.step.now none) ready in
+    let bounds : AreBoundsOf team.ppm c.act-answer.new.self.bounds (_) =
+    rw c.act-answer.ensures.bounds
+    (subst (λ (t : Team). AreBoundsOf t.ppm c.note.new.self.bounds (record { t = c.args.step.now.t; h = c.args.step.now.h } ∷ readings_of c.args.step.now.who past)) stands.same_team
+    (c.in_ok-note.ensures.bounds (readings_of c.args.step.now.who past) (readings_not_above team past c.args.step.now none)
+    (subst (λ (t : Team). AreBoundsOf t.ppm c.index_mut-node.result.now.bounds (readings_of c.args.step.now.who past)) (sym stands.same_team) own.bounds))) in
     let own_after : NodeStandsFor team (_) c.args.step.now.who c.act-answer.new.self = next_own team past c.args.step.now c.index_mut-node.result.now c.act-answer.new.self own known
-    (c.act-answer.ensures.readings ∙ c.in_ok-note.ensures.readings) (c.act-answer.ensures.started ∙ c.in_ok-note.ensures.started) deed.running in
+    bounds (c.act-answer.ensures.started ∙ c.in_ok-note.ensures.started) deed.running in
     let n = c.args.self.now.team.n in
     let found = one_of n c.args.self.now.processes.items c.from.result c.index_mut-node.result.now (omega (arith, c.args.self.now.each)) c.index_mut-node.ensures.value c.args.self.now.one_team in
     let fits : AllByRecursion (IsSendable team.n) c.act-answer.new.out.sends =

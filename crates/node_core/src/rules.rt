@@ -1,0 +1,70 @@
+//! What a packet that was heard makes of a process, kind by kind.
+
+use crate::process::Core;
+use tw_num::Moment;
+use tw_types::{Body, Datagram, Head, Outputs, Reason};
+
+impl Core {
+    ghost use Rattle.std.specs.Prelude.{◌≡◌, IfOk, IfSome};
+    ghost use Rattle.tw_types.specs.declared.team.Team.{Team as TeamSeen};
+    ghost use Rattle.tw_types.specs.Ranges.{HeadFits, BodyFits, DatagramFits};
+    ghost use Rattle.tw_machine.specs.Run.{Run};
+    ghost use Rattle.tw_machine.specs.Rules.{kind_rule, rule};
+    ghost use Rattle.node_core.specs.Moments.{MomentFits};
+    ghost use Rattle.node_core.specs.Sends.{GivesMore};
+    ghost use Rattle.node_core.specs.StandsFor.{RunStandsFor};
+
+    /// The rule of a packet's kind. Answers why the packet is dropped, if it is.
+    #[tactic(auto, unfolding(tw_machine::specs::Rules::kind_rule))]
+    fn kind_rule(
+        &mut self,
+        now: &Moment,
+        head: &Head,
+        body: &Body,
+        out: &mut Outputs,
+    ) -> Option<Reason>
+        requires now { MomentFits now.now }
+        requires head { HeadFits head.now }
+        requires body { BodyFits self.old.team.n head.now body.now }
+        ensures stands { (team : TeamSeen) (r : Run) → RunStandsFor team self.old out.old r →
+            RunStandsFor team self.new out.new (kind_rule team now.now head.now body.now r).run }
+        ensures dropped { (team : TeamSeen) (r : Run) → RunStandsFor team self.old out.old r →
+            result ≡ (kind_rule team now.now head.now body.now r).dropped }
+        ensures gives { GivesMore self.old.team.n 0 out.old out.new }
+        ensures team { self.new.team ≡ self.old.team }
+    {
+        match body {
+            Body::Update(_)
+            | Body::Decision(_)
+            | Body::NoDecision { .. }
+            | Body::Election { .. }
+            | Body::Promise { .. }
+            | Body::Ask(_)
+            | Body::State { .. }
+            | Body::Sync { .. } => None,
+        }
+    }
+
+    /// The rule of an event, which has a packet, or none, or was dropped before. Answers why the event is dropped, if it is.
+    pub fn rule(
+        &mut self,
+        now: &Moment,
+        packet: Result<Option<Datagram>, Reason>,
+        out: &mut Outputs,
+    ) -> Option<Reason>
+        requires now { MomentFits now.now }
+        requires packet { IfOk packet (λ packet. IfSome packet (DatagramFits self.old.team.n)) }
+        ensures stands { (team : TeamSeen) (r : Run) → RunStandsFor team self.old out.old r →
+            RunStandsFor team self.new out.new (rule team now.now packet r).run }
+        ensures dropped { (team : TeamSeen) (r : Run) → RunStandsFor team self.old out.old r →
+            result ≡ (rule team now.now packet r).dropped }
+        ensures gives { GivesMore self.old.team.n 0 out.old out.new }
+        ensures team { self.new.team ≡ self.old.team }
+    {
+        match packet {
+            Err(reason) => Some(reason),
+            Ok(None) => None,
+            Ok(Some(datagram)) => self.kind_rule(now, &datagram.head, &datagram.body, out),
+        }
+    }
+}

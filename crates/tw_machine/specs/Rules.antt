@@ -1,0 +1,40 @@
+-- What a packet that was heard makes of a process, kind by kind.
+use Rattle.std.specs.Prelude.{Option, Some, None, Result, Ok, Err}
+use Rattle.tw_num.specs.declared.moment.Moment.{Moment}
+use Rattle.tw_types.specs.declared.team.Team.{Team}
+use Rattle.tw_types.specs.declared.datagram.Head.{Head}
+use Rattle.tw_types.specs.declared.datagram.Body.{Body}
+use Rattle.tw_types.specs.declared.datagram.Body.TheVariants as bodies
+use Rattle.tw_types.specs.declared.datagram.Datagram.{Datagram}
+use Rattle.tw_types.specs.declared.answer.Reason.{Reason}
+use Rattle.tw_machine.specs.Run.{Run}
+
+-- a run after the rule of its event, and why the event is dropped, if it is
+pub record Ruled : Type 0 where
+  pub run : Run
+  pub dropped : Option Reason
+
+-- the event isn't dropped
+abbrev pub done : Run → Ruled
+done r = record { run = r; dropped = None }
+
+-- the event is dropped, and leaves all as it was
+abbrev pub dropped : Reason → Run → Ruled
+dropped reason r = record { run = r; dropped = Some reason }
+
+-- The rule of each kind. A sign of life does nothing, and a kind that isn't taken has no rule yet.
+unfoldable pub kind_rule : Team → Moment → Head → Body → Run → Ruled
+kind_rule team now head (bodies.Update kept) r = done r
+kind_rule team now head (bodies.Decision d) r = done r
+kind_rule team now head (bodies.NoDecision number group turn skip reports best) r = done r
+kind_rule team now head (bodies.Election number why) r = done r
+kind_rule team now head (bodies.Promise number report d) r = done r
+kind_rule team now head (bodies.Ask want) r = done r
+kind_rule team now head (bodies.State group position total offset bytes) r = done r
+kind_rule team now head (bodies.Sync ready) r = done r
+
+-- the rule of an event: that of its packet's kind, where there is a packet that wasn't dropped before
+abbrev pub rule : Team → Moment → Result (Option Datagram) Reason → Run → Ruled
+rule team now (Err reason) r = dropped reason r
+rule team now (Ok None) r = done r
+rule team now (Ok (Some d)) r = kind_rule team now d.head d.body r

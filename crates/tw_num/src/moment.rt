@@ -1,0 +1,12 @@
+use crate::Interval;
+
+/// What a process's own clock tells it at one moment.
+#[derive(Clone, Copy, Debug, PartialEq, Eq)]
+pub struct Moment {
+    /// The reading of its hardware clock, in ticks.
+    pub h: u64,
+    /// Its reading of team time, in microseconds, where its clock is synchronised.
+    pub reading: Option<u64>,
+    /// What holds team time, in microseconds, where it knows an interval.
+    pub interval: Option<Interval>,
+}

@@ -1,0 +1,4 @@
+pub mod Joining
+pub mod Pushes
+pub mod Rooms
+mod Worked

@@ -1,0 +1,103 @@
+ghost use Rattle.std.specs.Prelude.{◌≡◌, ◌<◌, ◌≤◌, Some, if◌then◌else◌, ℕ, length};
+ghost use Rattle.std.specs.Option.{option_copied};
+ghost use Rattle.tw_types.specs.Decisions.{or_none, is_older};
+ghost use Rattle.tw_types.specs.Ballots.{reports_it, least_reporter, begun, wants, joined, with_report, has_report_of};
+ghost use Rattle.tw_types.specs.BallotFits.{IsPromise, IsBallot};
+
+use crate::reports::{is_by_informed, is_older};
+use arrayvec::ArrayVec;
+use tw_types::{Ballot, Decision, Report, Team};
+
+/// A ballot of this number, which begins with the promise of its owner: its report, and its last decision if it has one.
+///
+/// The ballot is one of a slot.
+pub fn begin(number: u64, report: Report, decision: Option<Decision>) -> Ballot
+    ensures fits { (n : ℕ) → IsPromise n (record { number = number; report = report; decision = decision }) → IsBallot n result }
+    ensures exact { result ≡ begun (record { number = number; report = report; decision = decision }) }
+{
+    let mut reports = ArrayVec::new();
+    reports.push(report);
+    let best_from = least_reporter(decision.as_ref(), &reports);
+    Ballot {
+        number,
+        ring: None,
+        reports,
+        best: decision,
+        best_from,
+    }
+}
+
+/// Adds a promise to a ballot: what the process reports, and the decision that came with it. A greater decision becomes the
+/// ballot's best one.
+///
+/// Answers whether it was added. It isn't where the ballot is of another number, or has a report of the process already; the
+/// ballot then stays as it was.
+pub fn add(
+    team: &Team,
+    ballot: &mut Ballot,
+    number: u64,
+    report: Report,
+    decision: Option<Decision>,
+) -> bool
+    requires size { team.now.n ≤ 15 }
+    requires ballot { IsBallot team.now.n ballot.old }
+    requires who { report.member.who < team.now.n }
+    ensures wanted { result ≡ wants (record { number = number; report = report; decision = decision }) (Some ballot.old) }
+    ensures ballot { ballot.new ≡ (if result then joined (record { number = number; report = report; decision = decision }) ballot.old else ballot.old) }
+    ensures fits { IsPromise team.now.n (record { number = number; report = report; decision = decision }) → IsBallot team.now.n ballot.new }
+{
+    prove!(report.member.who < team.n);
+    if ballot.number != number || has_report_of(report.member.who, ballot) {
+        return false;
+    }
+    join(ballot, report, decision);
+    true
+}
+
+/// Adds a report and the decision that came with it.
+fn join(ballot: &mut Ballot, report: Report, decision: Option<Decision>)
+    requires { length ballot.old.reports.items < 15 }
+    ensures { ballot.new ≡ with_report report decision ballot.old }
+{
+    ballot.reports.push(report);
+    if is_older(pair_of(ballot.best.as_ref()), pair_of(decision.as_ref())) {
+        ballot.best = decision;
+    }
+    ballot.best_from = least_reporter(ballot.best.as_ref(), &ballot.reports);
+}
+
+/// Whether there is a report of this process.
+fn has_report_of(who: u8, ballot: &Ballot) -> bool
+    ensures { result ≡ has_report_of who ballot.now }
+{
+    ballot.reports.iter().any(|report| report.member.who == who)
+}
+
+/// The least process that reports this decision as its last one, or none where it is missing. 0 where there is no such one.
+fn least_reporter(decision: Option<&Decision>, reports: &[Report]) -> u8
+    ensures { result ≡ least_reporter (option_copied decision.entry) reports.now }
+{
+    let mut least = None;
+    for report in reports {
+        if reports_it(decision, report) {
+            let who = report.member.who;
+            least = Some(least.map_or(who, |least: u8| least.min(who)));
+        }
+    }
+    least.unwrap_or(0)
+}
+
+/// Whether an informed process reports this decision as its last one, or none where it is missing.
+fn reports_it(decision: Option<&Decision>, report: &Report) -> bool
+    ensures { result ≡ reports_it (option_copied decision.entry) report.now }
+{
+    is_by_informed(report) && (report.group, report.turn) == pair_of(decision)
+}
+
+/// The group and turn of a decision, 0 and 0 for none.
+fn pair_of(decision: Option<&Decision>) -> (u64, u64)
+    ensures group { result.0 ≡ (or_none (option_copied decision.entry)).group }
+    ensures turn { result.1 ≡ (or_none (option_copied decision.entry)).turn }
+{
+    decision.map_or((0, 0), |d| (d.group, d.turn))
+}

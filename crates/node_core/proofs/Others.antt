@@ -9,7 +9,7 @@ use Rattle.tw_types.specs.declared.team.Team.{Team}
 use Rattle.tw_types.specs.declared.datagram.Datagram.{Datagram}
 use Rattle.tw_types.specs.declared.outputs.Outputs.{Outputs}
 use Rattle.tw_machine.specs.Run.{Run, with_sends}
-use Rattle.node_core.specs.declared.process.Core.{Core}
+use Rattle.node_core.specs.declared.state.State.{State}
 use Rattle.node_core.specs.StandsFor.{RunStandsFor}
 
 range_push : (a n : ℕ) → range_with_len a (suc n) ≡ range_with_len a n ++ (a + n) ∷ []
@@ -30,14 +30,14 @@ others_push f p n =
     ∙ ap (map f) (filter-append p (range_with_len 0 n) (n ∷ []))
     ∙ map-append f (filter p (range_with_len 0 n)) (filter p (n ∷ []))
 
-sent_on : (team : Team) (c : Core) (out : Outputs) (r : Run) (xs ys zs : List (ℕ × Datagram)) → zs ≡ xs ++ ys → RunStandsFor team c out (with_sends ys (with_sends xs r)) → RunStandsFor team c out (with_sends zs r)
+sent_on : (team : Team) (c : State) (out : Outputs) (r : Run) (xs ys zs : List (ℕ × Datagram)) → zs ≡ xs ++ ys → RunStandsFor team c out (with_sends ys (with_sends xs r)) → RunStandsFor team c out (with_sends zs r)
 sent_on team c out r xs ys zs is s = record {
   same_team = s.same_team;
   process = s.process;
   given = s.given ∙ ap (λ (l : List (ℕ × Datagram)). record (r.out) { sends = l }) (append_assoc r.out.sends xs ys ∙ ap (λ (l : List (ℕ × Datagram)). r.out.sends ++ l) (sym is));
 }
 
-pub one_more : (team : Team) (c : Core) (out : Outputs) (r : Run) (f : ℕ → ℕ × Datagram) (p : ℕ → Bool) (n : ℕ)
+pub one_more : (team : Team) (c : State) (out : Outputs) (r : Run) (f : ℕ → ℕ × Datagram) (p : ℕ → Bool) (n : ℕ)
     → RunStandsFor team c out (with_sends (map f (cond (p n) (n ∷ []) [])) (with_sends (map f (filter p (range_with_len 0 n))) r))
     → RunStandsFor team c out (with_sends (map f (filter p (range_with_len 0 (n + 1)))) r)
 one_more team c out r f p n s = sent_on team c out r _ _ _ (others_push f p n) s

@@ -8,20 +8,28 @@ use Rattle.tw_machine.specs.Event.{Event}
 use Rattle.tw_machine.specs.Hearing.{read}
 use Rattle.tw_machine.specs.Duties.{duties}
 use Rattle.tw_machine.specs.Step.{learnt_by, moment_of, read_by, ruled_by, has_duties, step}
-use Rattle.node_core.specs.declared.process.Core.{Core}
-use Rattle.node_core.specs.StandsFor.{StandsFor, TimingStandsFor, RunStandsFor, identity_seen, beat_seen}
+use Rattle.node_core.specs.declared.state.State.{State}
+use Rattle.node_core.specs.StandsFor.{StandsFor, TimingStandsFor, RunStandsFor, identity_seen, beat_seen, vote_seen, belief_seen}
 
 -- a core that read its clock, and cleared what it gave before, stands for the run with which the rule begins
-pub read_stands : (team : Team) (c new : Core) (h : ℕ) (e : Event) (p : Process) (out : Outputs) → StandsFor c p → new.team ≡ team → new.identity ≡ c.identity → new.beat ≡ c.beat
+pub read_stands : (team : Team) (c new : State) (h : ℕ) (e : Event) (p : Process) (out : Outputs) → StandsFor c p → new.team ≡ team → new.identity ≡ c.identity → new.beat ≡ c.beat → new.vote ≡ c.vote → new.ballot ≡ c.ballot → new.belief ≡ c.belief
     → TimingStandsFor new.team new.timing (read team h (learnt_by team h e p).timing) → out ≡ nothing → RunStandsFor team new out (read_by team h e p)
-read_stands team c new h e p out s same me beat timing cleared = record {
+read_stands team c new h e p out s same me beat vote ballot belief timing cleared = record {
   same_team = same;
-  process = record { identity = s.identity ∙ ap identity_seen (sym me); timing = timing; beat = s.beat ∙ ap beat_seen (sym beat) };
+  process = record {
+    identity = s.identity ∙ ap identity_seen (sym me);
+    timing = timing;
+    beat = s.beat ∙ ap beat_seen (sym beat);
+    vote = s.vote ∙ ap vote_seen (sym vote);
+    ballot = s.ballot ∙ sym ballot;
+    belief = s.belief ∙ ap belief_seen (sym belief);
+    log = s.log;
+  };
   given = cleared;
 }
 
 -- what ends the step is what the step comes to; b says whether the duties ran
-pub step_stands : (team : Team) (new : Core) (h : ℕ) (e : Event) (p : Process) (out : Outputs) (b : Bool) → has_duties e ≡ b
+pub step_stands : (team : Team) (new : State) (h : ℕ) (e : Event) (p : Process) (out : Outputs) (b : Bool) → has_duties e ≡ b
     → RunStandsFor team new out (cond b (duties team (moment_of team h e p) (ruled_by team h e p).run) (ruled_by team h e p).run)
     → StandsFor new (step team h e p).process × (out ≡ (step team h e p).out)
 unfolding step

@@ -4,3 +4,5 @@ pub mod Moments
 pub mod Sends
 pub mod StandsFor
 pub mod Events
+pub mod InRange
+pub mod Outcomes

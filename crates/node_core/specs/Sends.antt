@@ -6,7 +6,7 @@ use Rattle.tw_types.specs.declared.datagram.Body.{Body}
 use Rattle.tw_types.specs.declared.datagram.Datagram.{Datagram}
 use Rattle.tw_types.specs.declared.outputs.Outputs.{Outputs}
 use Rattle.tw_types.specs.Ranges.{BodyFits, DatagramFits}
-use Rattle.node_core.specs.declared.process.Identity.{Identity}
+use Rattle.node_core.specs.declared.state.Identity.{Identity}
 
 -- it goes to one of the n processes, and has a spelling
 pub record IsSendable (n : ℕ) (s : ℕ × Datagram) : Type 0 where

@@ -2,14 +2,19 @@
 use Rattle.std.specs.Prelude.{◌≡◌, ℕ, ◌<◌, get_or, None}
 use Rattle.tw_num.specs.Clock.{fresh}
 use Rattle.tw_types.specs.declared.team.Team.{Team}
+use Rattle.tw_types.specs.Votes.{Vote}
+use Rattle.tw_types.specs.Beliefs.{Belief, Informed, Blank, no_log}
 use Rattle.tw_types.specs.Process.{Identity, Timing, Beat, Process}
 use Rattle.tw_types.specs.declared.outputs.Outputs.{Outputs}
 use Rattle.tw_machine.specs.Run.{Run}
 use Rattle.clock_sync.specs.StandsFor as clock
 use Rattle.node_core.specs.declared.timing.Timing as code_timing
 use Rattle.node_core.specs.declared.beat.Beat as code_beat
-use Rattle.node_core.specs.declared.process.Identity as code_identity
-use Rattle.node_core.specs.declared.process.Core.{Core}
+use Rattle.node_core.specs.declared.state.Identity as code_identity
+use Rattle.node_core.specs.declared.state.Vote as code_vote
+use Rattle.node_core.specs.declared.state.Belief as code_belief
+use Rattle.node_core.specs.declared.state.Belief.TheVariants as beliefs
+use Rattle.node_core.specs.declared.state.State.{State}
 
 -- the clock stands for the one that keeps all, and each process was heard alike
 pub record TimingStandsFor (team : Team) (c : code_timing.Timing) (t : Timing) : Type 0 where
@@ -25,14 +30,25 @@ identity_seen i = record { who = i.who; mode = i.mode; incarnation = i.incarnati
 abbrev pub beat_seen : code_beat.Beat → Beat
 beat_seen b = record { last = b.last }
 
--- each concern stands for its own
-pub record StandsFor (c : Core) (p : Process) : Type 0 where
+abbrev pub vote_seen : code_vote.Vote → Vote
+vote_seen v = record { promised = v.promised; support = v.support }
+
+abbrev pub belief_seen : code_belief.Belief → Belief
+belief_seen (beliefs.Informed last) = Informed last
+belief_seen (beliefs.Blank followed) = Blank followed
+
+-- Each concern stands for its own. There is no list yet.
+pub record StandsFor (c : State) (p : Process) : Type 0 where
   pub identity : p.identity ≡ identity_seen c.identity
   pub timing : TimingStandsFor c.team c.timing p.timing
   pub beat : p.beat ≡ beat_seen c.beat
+  pub vote : p.vote ≡ vote_seen c.vote
+  pub ballot : p.ballot ≡ c.ballot
+  pub belief : p.belief ≡ belief_seen c.belief
+  pub log : p.log ≡ no_log
 
 -- A process of this team and what it gave so far stand for a run. For what a history collects nothing stands.
-pub record RunStandsFor (team : Team) (c : Core) (out : Outputs) (r : Run) : Type 0 where
+pub record RunStandsFor (team : Team) (c : State) (out : Outputs) (r : Run) : Type 0 where
   pub same_team : c.team ≡ team
   pub process : StandsFor c r.process
   pub given : out ≡ r.out

@@ -1,8 +1,8 @@
 //! A process's signs of life.
 
-use crate::process::Core;
+use crate::state::State;
 use tw_num::Moment;
-use tw_types::{Body, Outputs};
+use tw_types::{Body, Decision, Outputs};
 
 /// When a process last gave a sign of life, by its own clock.
 #[derive(Clone, Copy, Debug)]
@@ -26,26 +26,62 @@ impl Beat {
     }
 }
 
-impl Core {
-    ghost use Rattle.std.specs.Prelude.{◌≡◌, ◌≤◌, ◌+◌, length};
+impl State {
+    ghost use Rattle.std.specs.Prelude.{◌≡◌, ◌<◌, ◌≤◌, ◌+◌, ◌^◌, length, IfSome};
     ghost use Rattle.tw_types.specs.declared.team.Team.{Team as TeamSeen};
     ghost use Rattle.tw_machine.specs.Run.{Run};
-    ghost use Rattle.tw_machine.specs.Beating.{give_beat};
+    ghost use Rattle.tw_machine.specs.Beating.{is_repeated, repeat_decision, give_beat};
+    ghost use Rattle.node_core.specs.InRange.{IsInRange};
     ghost use Rattle.node_core.specs.Moments.{MomentFits};
     ghost use Rattle.node_core.specs.Sends.{GivesMore};
-    ghost use Rattle.node_core.specs.StandsFor.{RunStandsFor};
+    ghost use Rattle.tw_types.specs.Process.{Process};
+    ghost use Rattle.node_core.specs.StandsFor.{StandsFor, RunStandsFor};
 
-    /// Gives a sign of life to each other process where a beat is due.
-    pub fn give_beat(&mut self, now: &Moment, out: &mut Outputs)
+    /// Whether the last decision is said again: the process made it itself, so long ago, and promised no other group.
+    fn is_repeated(&self, last: &Decision, reading: Option<u64>) -> bool
+        requires { IfSome reading (λ t. t < 2 ^ 60) }
+        ensures { (p : Process) → StandsFor self.now p → result ≡ is_repeated self.now.team p last.now reading }
+    {
+        match reading {
+            None => false,
+            Some(t) => {
+                last.maker == self.identity.who
+                    && last.group == self.vote.promised
+                    && last.made.saturating_add(self.team.decide) <= t
+            }
+        }
+    }
+
+    /// Sends the last decision again to all others, where there is need.
+    fn repeat_decision(&self, now: &Moment, out: &mut Outputs)
+        requires fits { IsInRange self.now }
         requires now { MomentFits now.now }
         requires room { length out.old.sends + 14 ≤ 64 }
+        ensures stands { (team : TeamSeen) (r : Run) → RunStandsFor team self.now out.old r →
+            RunStandsFor team self.now out.new (repeat_decision team now.now r) }
+        ensures gives { GivesMore self.now.team.n 14 out.old out.new }
+    {
+        if let Some(last) = self.belief.last() {
+            if self.is_repeated(last, now.reading) {
+                self.send_to_others(now, &Body::Decision(last.copy()), out);
+            }
+        }
+    }
+
+    /// Where a beat is due, says the last decision again, if there is need, and gives a sign of life to each other process.
+    pub fn give_beat(&mut self, now: &Moment, out: &mut Outputs)
+        requires fits { IsInRange self.old }
+        requires now { MomentFits now.now }
+        requires room { length out.old.sends + 28 ≤ 64 }
         ensures stands { (team : TeamSeen) (r : Run) → RunStandsFor team self.old out.old r →
             RunStandsFor team self.new out.new (give_beat team now.now r) }
-        ensures gives { GivesMore self.old.team.n 14 out.old out.new }
+        ensures gives { GivesMore self.old.team.n 28 out.old out.new }
+        ensures fits { IsInRange self.new }
         ensures team { self.new.team ≡ self.old.team }
     {
         if self.beat.is_due(self.team.pace, now.h) {
             self.beat.last = Some(now.h);
+            self.repeat_decision(now, out);
             let sign = Body::Sync { ready: None };
             self.send_to_others(now, &sign, out);
         }

@@ -1,28 +1,57 @@
 //! What a process does of its own accord.
 
-use crate::process::Core;
+use crate::state::State;
 use tw_num::Moment;
 use tw_types::Outputs;
 
-impl Core {
-    ghost use Rattle.std.specs.Prelude.{◌≡◌, ◌≤◌, ◌+◌, length};
+impl State {
+    ghost use Rattle.std.specs.Prelude.{◌≡◌, ◌<◌, ◌≤◌, ◌+◌, ◌^◌, length};
     ghost use Rattle.tw_types.specs.declared.team.Team.{Team as TeamSeen};
     ghost use Rattle.tw_machine.specs.Run.{Run};
-    ghost use Rattle.tw_machine.specs.Duties.{duties};
+    ghost use Rattle.tw_machine.specs.Duties.{timed_duties, duties};
+    ghost use Rattle.node_core.specs.InRange.{IsInRange};
     ghost use Rattle.node_core.specs.Moments.{MomentFits};
     ghost use Rattle.node_core.specs.Sends.{GivesMore};
     ghost use Rattle.node_core.specs.StandsFor.{RunStandsFor};
 
+    /// Does the duties of a process that has the reading `t` of team time, in their order. One whose turn it is holds no ballot
+    /// any more, so that it makes one decision at most.
+    #[tactic(auto, unfolding(tw_machine::specs::Duties::timed_duties))]
+    fn timed_duties(&mut self, now: &Moment, t: u64, out: &mut Outputs)
+        requires fits { IsInRange self.old }
+        requires now { MomentFits now.now }
+        requires reading { t < 2 ^ 60 }
+        requires room { length out.old.sends + 28 ≤ 64 }
+        ensures stands { (team : TeamSeen) (r : Run) → RunStandsFor team self.old out.old r →
+            RunStandsFor team self.new out.new (timed_duties team now.now t r) }
+        ensures gives { GivesMore self.old.team.n 28 out.old out.new }
+        ensures fits { IsInRange self.new }
+        ensures team { self.new.team ≡ self.old.team }
+    {
+        self.drop_ballot(t);
+        if self.has_turn(t) {
+            self.take_turn(now, t, out);
+        } else {
+            self.make_group(now, t, out);
+        }
+        self.begin_election(now, t, out);
+    }
+
     /// Does the duties, in their order.
     #[tactic(auto, unfolding(tw_machine::specs::Duties::duties))]
     pub fn duties(&mut self, now: &Moment, out: &mut Outputs)
+        requires fits { IsInRange self.old }
         requires now { MomentFits now.now }
-        requires room { length out.old.sends + 14 ≤ 64 }
+        requires room { length out.old.sends + 56 ≤ 64 }
         ensures stands { (team : TeamSeen) (r : Run) → RunStandsFor team self.old out.old r →
             RunStandsFor team self.new out.new (duties team now.now r) }
-        ensures gives { GivesMore self.old.team.n 14 out.old out.new }
+        ensures gives { GivesMore self.old.team.n 56 out.old out.new }
+        ensures fits { IsInRange self.new }
         ensures team { self.new.team ≡ self.old.team }
     {
+        if let Some(t) = now.reading {
+            self.timed_duties(now, t, out);
+        }
         self.give_beat(now, out);
     }
 }

@@ -45,6 +45,7 @@ fn learn_packet(
     ensures packet { (t : Known) → TimingStandsFor team.now timing.old t → IsNotBefore h t.clock →
         result ≡ (learn_packet team.now h (admitted team.now.n me (datagram_at team.now bytes.now)) t).packet }
     ensures fits { IfOk result (λ packet. IfSome packet (DatagramFits team.now.n)) }
+    ensures from { IfOk result (λ packet. IfSome packet (λ d. d.head.from < team.now.n)) }
 {
     let datagram = admitted(team, me, bytes)?;
     let head = datagram.head;
@@ -71,6 +72,7 @@ pub fn learn(
     ensures packet { (t : Known) → TimingStandsFor team.now timing.old t → IsNotBefore h t.clock →
         result ≡ (learn team.now me h (event_seen team.now event.entry) t).packet }
     ensures fits { IfOk result (λ packet. IfSome packet (DatagramFits team.now.n)) }
+    ensures from { IfOk result (λ packet. IfSome packet (λ d. d.head.from < team.now.n)) }
 {
     match event {
         Event::Tick => Ok(None),

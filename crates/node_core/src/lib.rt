@@ -7,15 +7,22 @@
 #![tactic(auto)]
 
 mod beat;
+mod control;
+mod deciding;
 mod duties;
+mod electing;
+mod grouping;
 mod hearing;
 mod packet;
 mod process;
 mod rules;
 mod sending;
+mod state;
+mod taking;
 mod timing;
 
-pub use process::{Core, Event, Identity};
+pub use process::{Core, Event};
+pub use state::{Belief, Identity, State, Vote};
 pub use tw_types::{Answer, Earlies, Mode, Outputs, Passes, ProposeFault, Reason, Sends, View};
 
 #[cfg(test)]

@@ -1,28 +1,15 @@
 //! A process, and its steps.
 
 ghost use Rattle.std.specs.Prelude.{◌≡◌, ◌<◌, ◌^◌};
-ghost use Rattle.std.proofs.Props.{props};
 ghost use Rattle.tw_types.specs.Team.{IsSound};
 ghost use Rattle.tw_machine.specs.Step.{answer_by};
 
-use crate::beat::Beat;
 use crate::hearing::learn;
-use crate::timing::Timing;
+use crate::state::State;
 use std::alloc::Global;
+use std::marker::Model;
 use tw_num::WantOfMemory;
 use tw_types::{Answer, Mode, Outputs, Reason, Team, View};
-
-/// Who a process is.
-#[derive(Clone, Copy, Debug, PartialEq, Eq)]
-pub struct Identity {
-    /// Its number in the team.
-    pub who: u8,
-    pub mode: Mode,
-    /// The reading of its hardware clock at the beginning of this life, in ticks.
-    pub incarnation: u64,
-    /// The reading of its hardware clock at its start, in ticks.
-    pub began: u64,
-}
 
 /// What happens to a process.
 #[derive(Clone, Copy, Debug)]
@@ -35,16 +22,21 @@ pub enum Event<'a> {
     Reference { lo: u64, hi: u64 },
 }
 
-/// A process of a team. It takes no memory once it is made.
+/// A process of a team. It takes no memory once it is made. Contracts see it as what it keeps, which is always in range.
 #[derive(Debug, Drop)]
 pub struct Core {
-    pub(crate) team: Team,
-    pub(crate) identity: Identity,
-    pub(crate) timing: Timing,
-    pub(crate) beat: Beat,
-    ghost sound: { IsSound team } by { Prim.hlevel props },
-    ghost who: { identity.who < team.n },
-    ghost incarnation: { identity.incarnation < 2 ^ 60 },
+    state: State,
+}
+
+impl Model for Core {
+    ghost use Rattle.node_core.specs.declared.state.State.{State};
+    ghost use Rattle.node_core.specs.InRange.{IsInRange};
+
+    ghost Value = { State };
+
+    ghost view = { λ c. c.state };
+
+    ghost invariant = { λ c. IsInRange c.state };
 }
 
 impl Core {
@@ -68,15 +60,7 @@ impl Core {
     {
         let _ = alloc;
         Ok(Core {
-            team,
-            identity: Identity {
-                who,
-                mode,
-                incarnation: h,
-                began: h,
-            },
-            timing: Timing::new(&team),
-            beat: Beat { last: None },
+            state: State::new(team, who, mode, h),
         })
     }
 
@@ -94,13 +78,7 @@ impl Core {
         ensures team { self.new.team ≡ self.old.team }
     {
         out.clear();
-        let packet = learn(&self.team, self.identity.who, &mut self.timing, event, h);
-        let now = self.timing.moment(h);
-        let dropped = self.rule(&now, packet, out);
-        if event.has_duties() {
-            self.duties(&now, out);
-        }
-        answer(dropped)
+        self.state.step(event, h, out)
     }
 
     /// What the process says of itself at the reading `h`, not below the last one.
@@ -110,12 +88,67 @@ impl Core {
         ensures view { (p : Process) → StandsFor self.old p → IsNotBefore h p.timing.clock → result ≡ view_of self.old.team h p }
         ensures team { self.new.team ≡ self.old.team }
     {
+        self.state.look(h)
+    }
+}
+
+impl State {
+    ghost use Rattle.std.specs.Prelude.{◌≡◌, ◌<◌, ◌≤◌, ◌^◌};
+    ghost use Rattle.std.specs.List.{AllByRecursion};
+    ghost use Rattle.tw_types.specs.Outputs.{nothing};
+    ghost use Rattle.tw_types.specs.Process.{Process};
+    ghost use Rattle.tw_num.specs.Clock.{IsNotBefore};
+    ghost use Rattle.tw_machine.specs.Step.{step, looked, view_of};
+    ghost use Rattle.node_core.specs.Events.{event_seen, IsGivable};
+    ghost use Rattle.node_core.specs.InRange.{IsInRange};
+    ghost use Rattle.node_core.specs.Sends.{IsSendable};
+    ghost use Rattle.node_core.specs.StandsFor.{StandsFor};
+
+    /// Takes an event at the reading `h`, and puts what it gives into the empty `out`.
+    fn step(&mut self, event: Event<'_>, h: u64, out: &mut Outputs) -> Answer
+        requires fits { IsInRange self.old }
+        requires reading { h < 2 ^ 60 }
+        requires givable { IsGivable event }
+        requires empty { out.old ≡ nothing }
+        ensures stands { (p : Process) → StandsFor self.old p → IsNotBefore h p.timing.clock →
+            StandsFor self.new (step self.old.team h (event_seen self.old.team event.entry) p).process }
+        ensures answer { (p : Process) → StandsFor self.old p → IsNotBefore h p.timing.clock →
+            result ≡ (step self.old.team h (event_seen self.old.team event.entry) p).answer }
+        ensures out { (p : Process) → StandsFor self.old p → IsNotBefore h p.timing.clock →
+            out.new ≡ (step self.old.team h (event_seen self.old.team event.entry) p).out }
+        ensures gives { AllByRecursion (IsSendable self.old.team.n) out.new.sends }
+        ensures fits { IsInRange self.new }
+        ensures team { self.new.team ≡ self.old.team }
+    {
+        let packet = learn(&self.team, self.identity.who, &mut self.timing, event, h);
+        let now = self.timing.moment(h);
+        let dropped = self.rule(&now, packet, out);
+        if event.has_duties() {
+            self.duties(&now, out);
+        }
+        answer(dropped)
+    }
+
+    /// What the process says of itself at the reading `h`.
+    fn look(&mut self, h: u64) -> View
+        requires fits { IsInRange self.old }
+        requires reading { h < 2 ^ 60 }
+        ensures stands { (p : Process) → StandsFor self.old p → IsNotBefore h p.timing.clock → StandsFor self.new (looked self.old.team h p) }
+        ensures view { (p : Process) → StandsFor self.old p → IsNotBefore h p.timing.clock → result ≡ view_of self.old.team h p }
+        ensures fits { IsInRange self.new }
+        ensures team { self.new.team ≡ self.old.team }
+    {
+        let reading = self.timing.read(h);
+        let (group, turn) = self
+            .belief
+            .last()
+            .map_or((0, 0), |last| (last.group, last.turn));
         View {
             incarnation: self.identity.incarnation,
-            reading: self.timing.read(h),
-            up: false,
-            group: 0,
-            turn: 0,
+            reading,
+            up: self.is_up(reading),
+            group,
+            turn,
             length: 0,
             passed: 0,
         }

@@ -1,10 +1,10 @@
 //! How a process sends.
 
-use crate::process::Core;
+use crate::state::State;
 use tw_num::Moment;
 use tw_types::{Body, Datagram, Head, Outputs};
 
-impl Core {
+impl State {
     ghost use Rattle.std.specs.Prelude.{◌≡◌, ◌≢◌, ◌==◌, ◌<◌, ◌≤◌, ◌+◌, [], ◌∷◌, map, length, not, if◌then◌else◌};
     ghost use Rattle.std.specs.List.{AllByRecursion};
     ghost use Rattle.tw_types.specs.declared.team.Team.{Team as TeamSeen};

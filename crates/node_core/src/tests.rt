@@ -1,14 +1,12 @@
 ghost use Rattle.std.specs.Prelude.{◌<◌, ◌≤◌, IfSome};
-ghost use Rattle.std.specs.List.{AllByRecursion};
 ghost use Rattle.tw_types.specs.Ranges.{IntervalFits, EchoFits, DatagramFits};
 
 use crate::{Core, Event};
 use std::alloc::Global;
 use std::mem::size_of;
-use std::process::Abort;
 use std::test::Fail;
 use tw_num::{Interval, WantOfMemory};
-use tw_types::{Answer, Body, Datagram, Echo, Head, Mode, Outputs, Reason, Team, View, WireFault};
+use tw_types::{Answer, Body, Datagram, Echo, Head, Mode, Outputs, Reason, Team, WireFault};
 use wire_body::write;
 
 /// A sound team of three processes with exact clocks.
@@ -84,63 +82,6 @@ fn reading(core: &mut Core, h: u32) -> Option<u64> {
     core.look(h.into()).reading
 }
 
-/// A reference at process 0 reaches process 1 by their signs of life.
-#[test]
-fn a_reference_reaches_another_process(rt: HostRuntime) -> Result<(), Fail> {
-    let alloc = rt.alloc();
-    let mut out = Outputs::new(alloc)?;
-    let mut zero = process(alloc, 0)?;
-    let mut one = process(alloc, 1)?;
-    let view = View {
-        incarnation: 5,
-        reading: None,
-        up: false,
-        group: 0,
-        turn: 0,
-        length: 0,
-        passed: 0,
-    };
-    assert_eq!(rt; zero.look(5), view);
-
-    assert_eq!(rt;
-        zero.step(Event::Reference { lo: 10, hi: 10 }, 10, &mut out),
-        Answer::Done
-    );
-    assert_eq!(rt; out.sends.as_slice().len(), 0);
-    assert_eq!(rt; reading(&mut zero, 10), Some(10));
-
-    assert_eq!(rt; zero.step(Event::Tick, 10, &mut out), Answer::Done);
-    let first = sync(0, 1, 10, interval(9, 2), None);
-    let second = sync(0, 2, 10, interval(9, 2), None);
-    assert_eq!(rt; out.sends.as_slice(), [(1, first), (2, second)].as_slice());
-
-    let first = sync(0, 1, 10, interval(9, 2), None);
-    assert_eq!(rt; receive(&mut one, 510, &first, &mut out), Answer::Done);
-    let back = sync(1, 0, 510, None, echo(10, 510));
-    let other = sync(1, 2, 510, None, None);
-    assert_eq!(rt; out.sends.as_slice(), [(0, back), (2, other)].as_slice());
-    assert_eq!(rt; reading(&mut one, 510), None);
-
-    let back = sync(1, 0, 510, None, echo(10, 510));
-    assert_eq!(rt; receive(&mut zero, 1010, &back, &mut out), Answer::Done);
-    assert_eq!(rt; out.sends.as_slice().len(), 0);
-
-    assert_eq!(rt; zero.step(Event::Tick, 20_009, &mut out), Answer::Done);
-    assert_eq!(rt; out.sends.as_slice().len(), 0);
-    assert_eq!(rt; zero.step(Event::Tick, 20_010, &mut out), Answer::Done);
-    let told = sync(0, 1, 20_010, interval(20_009, 2), echo(510, 1010));
-    let other = sync(0, 2, 20_010, interval(20_009, 2), None);
-    assert_eq!(rt; out.sends.as_slice(), [(1, told), (2, other)].as_slice());
-
-    let told = sync(0, 1, 20_010, interval(20_009, 2), echo(510, 1010));
-    assert_eq!(rt; receive(&mut one, 20_510, &told, &mut out), Answer::Done);
-    assert_eq!(rt; reading(&mut one, 20_510), Some(20_511));
-    let back = sync(1, 0, 20_510, interval(20_008, 1006), echo(20_010, 20_510));
-    let other = sync(1, 2, 20_510, interval(20_008, 1006), None);
-    assert_eq!(rt; out.sends.as_slice(), [(0, back), (2, other)].as_slice());
-    Ok(())
-}
-
 /// The senders and receivers that a process of the team has nothing to do with.
 #[test]
 fn strangers_are_dropped(rt: HostRuntime) -> Result<(), Fail> {
@@ -162,47 +103,6 @@ fn strangers_are_dropped(rt: HostRuntime) -> Result<(), Fail> {
     Ok(())
 }
 
-/// The datagrams of the schedule in which a reference reaches another process.
-fn sent_on_the_way() -> [Datagram; 8]
-    ensures { AllByRecursion (DatagramFits 3) result }
-{
-    [
-        sync(0, 1, 10, interval(9, 2), None),
-        sync(0, 2, 10, interval(9, 2), None),
-        sync(1, 0, 510, None, echo(10, 510)),
-        sync(1, 2, 510, None, None),
-        sync(0, 1, 20_010, interval(20_009, 2), echo(510, 1010)),
-        sync(0, 2, 20_010, interval(20_009, 2), None),
-        sync(1, 0, 20_510, interval(20_008, 1006), echo(20_010, 20_510)),
-        sync(1, 2, 20_510, interval(20_008, 1006), None),
-    ]
-}
-
-/// Each front of the bytes of a datagram is dropped as too short, and nothing of it is kept.
-fn cut_anywhere(rt: &impl Abort, alloc: Global, packet: &Datagram) -> Result<(), Fail>
-    requires { DatagramFits 3 packet.now }
-{
-    let mut out = Outputs::new(alloc)?;
-    let mut bytes = [0; 4096];
-    assert_eq!(rt; write(&TEAM, packet, &mut bytes), 82);
-    for cut in 0..82 {
-        let mut one = process(alloc, 1)?;
-        let answer = one.step(Event::Packet(&bytes[..cut]), 20_510, &mut out);
-        assert_eq!(rt; answer, Answer::Dropped(Reason::Wire(WireFault::Short)));
-        assert_eq!(rt; reading(&mut one, 20_510), None);
-    }
-    Ok(())
-}
-
-#[test]
-fn no_front_of_a_packet_is_taken(rt: HostRuntime) -> Result<(), Fail> {
-    let alloc = rt.alloc();
-    for packet in &sent_on_the_way() {
-        cut_anywhere(&rt, alloc, packet)?;
-    }
-    Ok(())
-}
-
 /// The first bytes of the room that datagrams are written to.
 fn front<const N: usize>(bytes: &[u8; 4096]) -> &[u8]
     requires { N ≤ 4096 }
@@ -210,7 +110,7 @@ fn front<const N: usize>(bytes: &[u8; 4096]) -> &[u8]
     &bytes[..N]
 }
 
-/// What process 1 answers where this byte of the head is 255 in the fifth of those datagrams.
+/// What process 1 answers where this byte of the head is 255.
 fn answer_at(place: u8) -> Answer {
     let fault = match place {
         0 => WireFault::Version,

@@ -10,7 +10,7 @@ use Rattle.tw_types.specs.Row.{Row}
 use Rattle.tw_types.specs.Numbered.{numbered}
 use Rattle.tw_num.specs.Rate.{Timely}
 use Rattle.tw_machine.specs.Rules.{kind_rule}
-use Rattle.tw_machine.specs.Duties.{duties}
+use Rattle.tw_machine.specs.Duties.{timed_duties, duties}
 use Rattle.tw_machine.specs.Step.{step}
 use Rattle.tw_machine.specs.World.{silent, world, Admissible}
 use Rattle.tw_machine.specs.Rows.{row_by}
@@ -55,10 +55,10 @@ abbrev beats : List Step
 beats = at 20010 0 20010 Tick ∷ at 1010 0 1010 (Recv 3) ∷ at 510 1 510 (Recv 1) ∷ at 10 0 10 Tick ∷ at 10 0 10 (Reference 10 10) ∷ at 5 1 5 First ∷ at 5 0 5 First ∷ []
 
 sendings : map (λ (d : Dispatch). d.at) (world (record team_a { ppm = 0 }) beats).sent ≡ 10 ∷ 10 ∷ 510 ∷ 510 ∷ 20010 ∷ 20010 ∷ []
-unfolding step duties kind_rule
+unfolding step duties timed_duties kind_rule
 sendings = refl
 
 -- the round trip took 20000 at most, of which 18999 at least were waited
 rated : option_and_then (λ d. option_map (rate_at (record team_a { ppm = 0 }) (at 20510 1 20510 (Recv 5)) d) ((world (record team_a { ppm = 0 }) beats).process_of 1)) (numbered 5 (world (record team_a { ppm = 0 }) beats).sent) ≡ Some (Timely 1002)
-unfolding step duties kind_rule
+unfolding step duties timed_duties kind_rule
 rated = refl

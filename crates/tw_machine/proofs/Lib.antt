@@ -11,11 +11,15 @@ pub mod Induction
 pub mod Intervals
 pub mod Readings
 pub mod Parts
+pub mod Exclusions
+pub mod Complete
 pub mod Steps
 pub mod Timings
 pub mod ClockLaw
 pub mod DelayLaw
 mod Worked
+mod GroupsWorked
+mod Forged
 mod ClockWorked
 mod Decided
 mod SafeTests

@@ -1,20 +1,36 @@
 -- What the parts of a step leave as it was, and whose it is what they send.
-use Rattle.std.proofs.Common.{◌≡◌, ◌≢◌, refl, ◌∙◌, ℕ, Bool, true, false, cond, Option, Some, None, Result, Ok, Err}
+use Rattle.std.proofs.Common.{◌≡◌, ◌≢◌, refl, ◌∙◌, ℕ, Bool, true, false, cond, List, [], ◌∷◌, Option, Some, None, Result, Ok, Err}
 use Rattle.std.specs.List.{AllByRecursion}
 use Rattle.tw_num.specs.declared.moment.Moment.{Moment}
+use Rattle.tw_num.specs.Rate.{Rate, Timely, Late, Unrated}
 use Rattle.tw_types.specs.declared.team.Team.{Team}
 use Rattle.tw_types.specs.declared.datagram.Head.{Head}
 use Rattle.tw_types.specs.declared.datagram.Body.{Body}
 use Rattle.tw_types.specs.declared.datagram.Body.TheVariants as bodies
 use Rattle.tw_types.specs.declared.datagram.Datagram.{Datagram}
+use Rattle.tw_types.specs.declared.message.Decision.{Decision}
+use Rattle.tw_types.specs.declared.ballot.Ballot.{Ballot}
+use Rattle.tw_types.specs.declared.datagram.Why.{Why}
 use Rattle.tw_types.specs.declared.answer.Reason.{Reason}
+use Rattle.tw_types.specs.declared.answer.Reason.TheVariants as reasons
+use Rattle.tw_types.specs.Refusals.{Refusal, first_refusal}
+use Rattle.tw_types.specs.Votes.{Promise, Making}
+use Rattle.tw_types.specs.Ballots.{wants, is_complete}
+use Rattle.tw_types.specs.Elections.{why_begun, own_promise}
+use Rattle.tw_types.specs.Groups.{NoGroup, group_made}
 use Rattle.tw_types.specs.Process.{Process}
 use Rattle.tw_machine.specs.Event.{Event}
-use Rattle.tw_machine.specs.Run.{Run}
-use Rattle.tw_machine.specs.Sending.{datagram_to, others, sent_to_others}
-use Rattle.tw_machine.specs.Beating.{is_due, beat_given, give_beat}
+use Rattle.tw_machine.specs.Run.{Run, Ruled, done, dropped}
+use Rattle.tw_machine.specs.Sending.{datagram_to, others, sent_to, sent_to_others}
+use Rattle.tw_machine.specs.Standing.{member_of, last_decision, report_by, promise_by}
+use Rattle.tw_machine.specs.Control.{rate_of, timely_reading, if_timely}
+use Rattle.tw_machine.specs.Taking.{decision_tests, decision_taken, take_decision}
+use Rattle.tw_machine.specs.Electing.{promised, answer_tests, election_answered, answer_election, ballot_dropped, has_spent_ballot, drop_ballot, holds_election, election_begun, begin_election}
+use Rattle.tw_machine.specs.Deciding.{making_kept, decision_made, has_turn, turn_taken, take_turn}
+use Rattle.tw_machine.specs.Grouping.{promise_added, take_promise, group_begun, make_group}
+use Rattle.tw_machine.specs.Beating.{is_due, beat_marked, is_repeated, repeat_decision, beat_given, give_beat}
 use Rattle.tw_machine.specs.Rules.{kind_rule, rule}
-use Rattle.tw_machine.specs.Duties.{duties}
+use Rattle.tw_machine.specs.Duties.{timed_duties, duties_if_timed, duties}
 use Rattle.tw_machine.specs.Step.{moment_of, read_by, ruled_by, has_duties, ended_by}
 use Rattle.tw_machine.proofs.Tables.{all_joined, all_mapped, all_of}
 
@@ -50,29 +66,161 @@ others_sent n now body r = record {
   earlies = refl;
 }
 
+-- a change of what a process promised, believes, holds and printed, which sends nothing
+pub record IsInner (a b : Run) : Type 0 where
+  pub identity : b.process.identity ≡ a.process.identity
+  pub timing : b.process.timing ≡ a.process.timing
+  pub sends : b.out.sends ≡ a.out.sends
+  pub passes : b.out.passes ≡ a.out.passes
+  pub earlies : b.out.earlies ≡ a.out.earlies
+
+inner_on : (now : Moment) (a b : Run) → IsInner a b → GoesOn now a b
+inner_on now a b same = record {
+  identity = same.identity;
+  timing = same.timing;
+  sends = λ P own before. rw same.sends before;
+  passes = same.passes;
+  earlies = same.earlies;
+}
+
+-- such a change, and then a datagram to all others
+inner_then_others : (n : ℕ) (now : Moment) (body : Body) (a b : Run) → IsInner a b → GoesOn now a (sent_to_others n now body b)
+inner_then_others n now body a b same = then_on now a b (sent_to_others n now body b) (inner_on now a b same) (others_sent n now body b)
+
 -- the duties
+
+drop_on : (team : Team) (now : Moment) (t : ℕ) (r : Run) → GoesOn now r (drop_ballot team t r)
+drop_on team now t r = go (has_spent_ballot team t r.process)
+  where
+    go : (test : Bool) → GoesOn now r (cond test (ballot_dropped r) r)
+    go true = inner_on now r (ballot_dropped r) (record { identity = refl; timing = refl; sends = refl; passes = refl; earlies = refl })
+    go false = stays now r
+
+made_on : (team : Team) (now : Moment) (making : Making) (t : ℕ) (r : Run) → GoesOn now r (decision_made team now making t r)
+made_on team now making t r = inner_then_others team.n now (bodies.Decision making.decision) r (making_kept making t r) (record { identity = refl; timing = refl; sends = refl; passes = refl; earlies = refl })
+
+turn_on : (team : Team) (now : Moment) (t : ℕ) (r : Run) → GoesOn now r (take_turn team now t r)
+turn_on team now t r = go (last_decision r.process)
+  where
+    by_test : (last : Decision) → (test : Bool) → GoesOn now r (cond test (turn_taken team now last t r) r)
+    by_test last true = made_on team now _ t r
+    by_test last false = stays now r
+
+    go : (o : Option Decision) → GoesOn now r (elim o as (λ o. Run) [ None ↦ r | Some last ↦ cond (has_turn team t r.process) (turn_taken team now last t r) r ])
+    go None = stays now r
+    go (Some last) = by_test last (has_turn team t r.process)
+
+group_on : (team : Team) (now : Moment) (t : ℕ) (r : Run) → GoesOn now r (make_group team now t r)
+group_on team now t r = go r.process.ballot
+  where
+    begun : (ballot : Ballot) → (made : Result Decision NoGroup) → GoesOn now r (elim made as (λ m. Run) [ Ok d ↦ group_begun team now ballot d t r | Err why ↦ r ])
+    begun ballot (Ok d) = then_on now r (ballot_dropped r) (group_begun team now ballot d t r)
+        (inner_on now r (ballot_dropped r) (record { identity = refl; timing = refl; sends = refl; passes = refl; earlies = refl })) (made_on team now _ t (ballot_dropped r))
+    begun ballot (Err why) = stays now r
+
+    by_test : (ballot : Ballot) → (test : Bool) → GoesOn now r (cond test (elim (group_made team ballot (member_of r.process.identity) t) as (λ m. Run) [ Ok d ↦ group_begun team now ballot d t r | Err why ↦ r ]) r)
+    by_test ballot true = begun ballot (group_made team ballot (member_of r.process.identity) t)
+    by_test ballot false = stays now r
+
+    go : (o : Option Ballot) → GoesOn now r (elim o as (λ o. Run) [ None ↦ r | Some ballot ↦ cond (is_complete team t ballot) (elim (group_made team ballot (member_of r.process.identity) t) as (λ m. Run) [ Ok d ↦ group_begun team now ballot d t r | Err why ↦ r ]) r ])
+    go None = stays now r
+    go (Some ballot) = by_test ballot (is_complete team t ballot)
+
+election_on : (team : Team) (now : Moment) (t : ℕ) (r : Run) → GoesOn now r (begin_election team now t r)
+election_on team now t r = go (holds_election team now t r.process)
+  where
+    go : (test : Bool) → GoesOn now r (cond test (election_begun team now (why_begun team (last_decision r.process) t) (own_promise team (report_by r.process t) (last_decision r.process) t) r) r)
+    go true = inner_then_others team.n now _ r _ (record { identity = refl; timing = refl; sends = refl; passes = refl; earlies = refl })
+    go false = stays now r
+
+timed_on : (team : Team) (now : Moment) (t : ℕ) (r : Run) → GoesOn now r (timed_duties team now t r)
+unfolding timed_duties
+timed_on team now t r =
+    let a : Run = drop_ballot team t r in
+    let b : Run = take_turn team now t a in
+    let c : Run = make_group team now t b in
+    then_on now r c (begin_election team now t c) (then_on now r b c (then_on now r a b (drop_on team now t r) (turn_on team now t a)) (group_on team now t b)) (election_on team now t c)
+
+if_timed_on : (team : Team) (now : Moment) (reading : Option ℕ) (r : Run) → GoesOn now r (duties_if_timed team now reading r)
+if_timed_on team now None r = stays now r
+if_timed_on team now (Some t) r = timed_on team now t r
+
+repeat_on : (team : Team) (now : Moment) (r : Run) → GoesOn now r (repeat_decision team now r)
+repeat_on team now r = go (last_decision r.process)
+  where
+    by_test : (last : Decision) → (test : Bool) → GoesOn now r (cond test (sent_to_others team.n now (bodies.Decision last) r) r)
+    by_test last true = others_sent team.n now (bodies.Decision last) r
+    by_test last false = stays now r
+
+    go : (o : Option Decision) → GoesOn now r (elim o as (λ o. Run) [ None ↦ r | Some last ↦ cond (is_repeated team r.process last now.reading) (sent_to_others team.n now (bodies.Decision last) r) r ])
+    go None = stays now r
+    go (Some last) = by_test last (is_repeated team r.process last now.reading)
 
 beat_on : (team : Team) (now : Moment) (r : Run) → GoesOn now r (give_beat team now r)
 beat_on team now r = go (is_due team.pace now.h r.process.beat)
   where
+    marked : Run
+    marked = beat_marked now.h r
+
     go : (due : Bool) → GoesOn now r (cond due (beat_given team now r) r)
-    go true = let sent = others_sent team.n now (bodies.Sync None) (record r { process = record (r.process) { beat = record { last = Some now.h } } }) in
-        record { identity = refl; timing = refl; sends = sent.sends; passes = refl; earlies = refl }
+    go true = then_on now r marked (beat_given team now r) (inner_on now r marked (record { identity = refl; timing = refl; sends = refl; passes = refl; earlies = refl }))
+        (then_on now marked (repeat_decision team now marked) (beat_given team now r) (repeat_on team now marked) (others_sent team.n now (bodies.Sync None) (repeat_decision team now marked)))
     go false = stays now r
 
 pub duties_on : (team : Team) (now : Moment) (r : Run) → GoesOn now r (duties team now r)
 unfolding duties
-duties_on team now r = beat_on team now r
+duties_on team now r = then_on now r (duties_if_timed team now now.reading r) (duties team now r) (if_timed_on team now now.reading r) (beat_on team now (duties_if_timed team now now.reading r))
 
 -- the rules
+
+decision_on : (now : Moment) (d : Decision) (r : Run) → GoesOn now r (take_decision d r).run
+decision_on now d r = go (first_refusal (decision_tests r.process d))
+  where
+    go : (o : Option Reason) → GoesOn now r (elim o as (λ o. Ruled) [ None ↦ done (decision_taken d r) | Some reason ↦ dropped reason r ]).run
+    go None = inner_on now r (decision_taken d r) (record { identity = refl; timing = refl; sends = refl; passes = refl; earlies = refl })
+    go (Some reason) = stays now r
+
+one_sent : (now : Moment) (body : Body) (to : ℕ) (r : Run) → GoesOn now r (sent_to now body to r)
+one_sent now body to r = record {
+  identity = refl;
+  timing = refl;
+  sends = λ P own before. all_joined P r.out.sends _ before (own to body, tt);
+  passes = refl;
+  earlies = refl;
+}
+
+answer_on : (team : Team) (now : Moment) (from number : ℕ) (why : Why) (t : ℕ) (r : Run) → GoesOn now r (answer_election team now from number why t r).run
+answer_on team now from number why t r = go (first_refusal (answer_tests team now from number why t r.process))
+  where
+    given : Promise
+    given = promise_by r.process number t
+
+    go : (o : Option Reason) → GoesOn now r (elim o as (λ o. Ruled) [ None ↦ done (election_answered now from given r) | Some reason ↦ dropped reason r ]).run
+    go None = then_on now r (promised given r) (election_answered now from given r)
+        (inner_on now r (promised given r) (record { identity = refl; timing = refl; sends = refl; passes = refl; earlies = refl })) (one_sent now _ from (promised given r))
+    go (Some reason) = stays now r
+
+promise_on : (now : Moment) (given : Promise) (r : Run) → GoesOn now r (take_promise given r).run
+promise_on now given r = go (wants given r.process.ballot)
+  where
+    go : (test : Bool) → GoesOn now r (cond test (done (promise_added given r)) (dropped reasons.Old r)).run
+    go true = inner_on now r (promise_added given r) (record { identity = refl; timing = refl; sends = refl; passes = refl; earlies = refl })
+    go false = stays now r
+
+timely_on : (team : Team) (now : Moment) (head : Head) (rule : ℕ → Run → Ruled) (r : Run) → ((t : ℕ) → GoesOn now r (rule t r).run) → GoesOn now r (if_timely team now head rule r).run
+timely_on team now head rule r each = go (timely_reading (rate_of team now head) now.reading)
+  where
+    go : (o : Result ℕ Reason) → GoesOn now r (elim o as (λ o. Ruled) [ Err reason ↦ dropped reason r | Ok t ↦ rule t r ]).run
+    go (Err reason) = stays now r
+    go (Ok t) = each t
 
 kind_on : (team : Team) (now : Moment) (head : Head) (body : Body) (r : Run) → GoesOn now r (kind_rule team now head body r).run
 unfolding kind_rule
 kind_on team now head (bodies.Update kept) r = stays now r
-kind_on team now head (bodies.Decision d) r = stays now r
+kind_on team now head (bodies.Decision d) r = timely_on team now head (λ t. take_decision d) r (λ t. decision_on now d r)
 kind_on team now head (bodies.NoDecision number group turn skip reports best) r = stays now r
-kind_on team now head (bodies.Election number why) r = stays now r
-kind_on team now head (bodies.Promise number report d) r = stays now r
+kind_on team now head (bodies.Election number why) r = timely_on team now head (answer_election team now head.from number why) r (λ t. answer_on team now head.from number why t r)
+kind_on team now head (bodies.Promise number report d) r = timely_on team now head (λ t. take_promise (record { number = number; report = report; decision = d })) r (λ t. promise_on now (record { number = number; report = report; decision = d }) r)
 kind_on team now head (bodies.Ask want) r = stays now r
 kind_on team now head (bodies.State group position total offset bytes) r = stays now r
 kind_on team now head (bodies.Sync ready) r = stays now r
@@ -83,13 +231,51 @@ rule_on team now (Ok None) r = stays now r
 rule_on team now (Ok (Some d)) r = kind_on team now d.head d.body r
 
 -- no rule drops a packet as contradicting what the process knows of time
+
+-- where no test has this word, it isn't the one that decides
+other_refusal : (reason : Reason) (rs : List Refusal) → AllByRecursion (λ (r : Refusal). r.reason ≢ reason) rs → first_refusal rs ≢ Some reason
+other_refusal reason [] all e = absurd (cc)
+other_refusal reason (r ∷ rs) all e = go r.present (other_refusal reason rs all.1) e
+  where
+    go : (b : Bool) → first_refusal rs ≢ Some reason → cond b (Some r.reason) (first_refusal rs) ≡ Some reason → ⊥
+    go true rest e = all.0 (cc)
+    go false rest e = rest e
+
+by_reason : (o : Option Reason) (reason : Reason) (a b : Run) → o ≢ Some reason → (elim o as (λ o. Ruled) [ None ↦ done a | Some reason ↦ dropped reason b ]).dropped ≢ Some reason
+by_reason None reason a b other e = absurd (cc)
+by_reason (Some r) reason a b other e = other e
+
+decision_agrees : (d : Decision) (r : Run) → (take_decision d r).dropped ≢ Some reasons.Disjoint
+decision_agrees d r e = by_reason (first_refusal (decision_tests r.process d)) reasons.Disjoint (decision_taken d r) r
+    (other_refusal reasons.Disjoint (decision_tests r.process d) ((λ e. cc), ((λ e. cc), ((λ e. cc), ((λ e. cc), ((λ e. cc), ((λ e. cc), tt))))))) e
+
+timely_agrees : (team : Team) (now : Moment) (head : Head) (rule : ℕ → Run → Ruled) (r : Run) → ((t : ℕ) → (rule t r).dropped ≢ Some reasons.Disjoint) → (if_timely team now head rule r).dropped ≢ Some reasons.Disjoint
+timely_agrees team now head rule r each = go (rate_of team now head) now.reading
+  where
+    go : (rate : Rate) → (reading : Option ℕ) → (elim (timely_reading rate reading) as (λ o. Ruled) [ Err reason ↦ dropped reason r | Ok t ↦ rule t r ]).dropped ≢ Some reasons.Disjoint
+    go Unrated reading e = absurd (cc)
+    go (Late bound) reading e = absurd (cc)
+    go (Timely bound) None e = absurd (cc)
+    go (Timely bound) (Some t) e = each t e
+
+answer_agrees : (team : Team) (now : Moment) (from number : ℕ) (why : Why) (t : ℕ) (r : Run) → (answer_election team now from number why t r).dropped ≢ Some reasons.Disjoint
+answer_agrees team now from number why t r e = by_reason (first_refusal (answer_tests team now from number why t r.process)) reasons.Disjoint (election_answered now from (promise_by r.process number t) r) r
+    (other_refusal reasons.Disjoint (answer_tests team now from number why t r.process) ((λ e. cc), ((λ e. cc), ((λ e. cc), ((λ e. cc), ((λ e. cc), tt)))))) e
+
+promise_agrees : (given : Promise) (r : Run) → (take_promise given r).dropped ≢ Some reasons.Disjoint
+promise_agrees given r e = go (wants given r.process.ballot) e
+  where
+    go : (test : Bool) → (cond test (done (promise_added given r)) (dropped reasons.Old r)).dropped ≢ Some reasons.Disjoint
+    go true e = absurd (cc)
+    go false e = absurd (cc)
+
 kind_agrees : (team : Team) (now : Moment) (head : Head) (body : Body) (r : Run) → (kind_rule team now head body r).dropped ≢ Some Reason.Disjoint
 unfolding kind_rule
 kind_agrees team now head (bodies.Update kept) r e = absurd (cc)
-kind_agrees team now head (bodies.Decision d) r e = absurd (cc)
+kind_agrees team now head (bodies.Decision d) r e = timely_agrees team now head (λ t. take_decision d) r (λ t. decision_agrees d r) e
 kind_agrees team now head (bodies.NoDecision number group turn skip reports best) r e = absurd (cc)
-kind_agrees team now head (bodies.Election number why) r e = absurd (cc)
-kind_agrees team now head (bodies.Promise number report d) r e = absurd (cc)
+kind_agrees team now head (bodies.Election number why) r e = timely_agrees team now head (answer_election team now head.from number why) r (λ t. answer_agrees team now head.from number why t r) e
+kind_agrees team now head (bodies.Promise number report d) r e = timely_agrees team now head (λ t. take_promise (record { number = number; report = report; decision = d })) r (λ t. promise_agrees (record { number = number; report = report; decision = d }) r) e
 kind_agrees team now head (bodies.Ask want) r e = absurd (cc)
 kind_agrees team now head (bodies.State group position total offset bytes) r e = absurd (cc)
 kind_agrees team now head (bodies.Sync ready) r e = absurd (cc)

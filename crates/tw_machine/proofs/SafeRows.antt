@@ -1,5 +1,5 @@
--- The rows of a schedule are safe while no process is ever up and nothing is delivered.
-use Rattle.std.proofs.Common.{◌≡◌, refl, sym, subst, ◌∙◌, ℕ, zero, suc, false, List, [], ◌∷◌, ◌++◌, Option, Some, None, Ok, slice_get}
+-- The deliveries of a schedule are safe while there are none.
+use Rattle.std.proofs.Common.{◌≡◌, refl, sym, subst, ◌∙◌, ℕ, zero, suc, List, [], ◌∷◌, ◌++◌, Option, Some, None, Ok, slice_get}
 use Rattle.std.proofs.lemmas.Option.{same_Some}
 use Rattle.tw_types.specs.declared.team.Team.{Team}
 use Rattle.tw_types.specs.declared.step.Step.{Step}
@@ -12,15 +12,14 @@ use Rattle.tw_types.specs.Row.{Row, Update, Pass}
 use Rattle.tw_machine.specs.Event.{Event}
 use Rattle.tw_machine.specs.Step.{step}
 use Rattle.tw_machine.specs.Dispatches.{Dispatch}
-use Rattle.tw_machine.specs.World.{receive, deed, deed_in, world}
-use Rattle.tw_machine.specs.Rows.{columns, row_of, rows_of}
+use Rattle.tw_machine.specs.World.{receive, deed, world}
+use Rattle.tw_machine.specs.Rows.{row_of, rows_of}
 use Rattle.tw_machine.specs.Places.{Each}
-use Rattle.tw_machine.specs.SafeRows.{EachUp, delivered, timed, SafeRows}
+use Rattle.tw_machine.specs.SafeRows.{delivered, timed, SafeDeliveries}
 use Rattle.tw_machine.proofs.Steps.{step_passes, step_earlies}
 
--- a row that isn't up and delivers and shows nothing
+-- a row that delivers and shows nothing
 pub record IsQuiet (r : Row) : Type 0 where
-  pub up : r.up ≡ false
   pub passes : r.passes ≡ []
   pub earlies : r.earlies ≡ []
   pub entries : r.entries ≡ []
@@ -52,16 +51,11 @@ deed_delivers_nothing team who h sent (Reference lo hi) (Some p) = step_delivers
 deed_delivers_nothing team who h sent Look None = record { passes = refl; earlies = refl }
 deed_delivers_nothing team who h sent Look (Some p) = record { passes = refl; earlies = refl }
 
-never_up : (team : Team) (h : ℕ) (before after : Option Process) → (columns team h before after).up ≡ false
-never_up team h before None = refl
-never_up team h before (Some p) = refl
-
 row_is_quiet : (team : Team) (past : List Step) (s : Step) → IsQuiet (row_of team past s)
 row_is_quiet team past s =
     let w = world team past in
     let none = deed_delivers_nothing team s.who s.h w.sent s.act (w.process_of s.who) in
     record {
-      up = never_up team s.h (w.process_of s.who) (deed_in team w s).process;
       passes = rw (none.passes) refl;
       earlies = rw (none.earlies) refl;
       entries = refl;
@@ -89,18 +83,14 @@ none_timed : (r : Row) → IsQuiet r → timed r ≡ []
 none_timed r q = rw (q.passes)
 
 module _ (team : Team) (rows : List Row) (quiet : Each rows (λ i r. IsQuiet r)) where
-  none_up : (P : ℕ → Row → ℕ → Type 0) → EachUp rows P
-  none_up P i r e reading u f = let q : r.up ≡ false = (quiet i r e).up in cc
-
   no_pass : (P : ℕ → Row → ℕ → Pass → Type 0) → Each rows (λ i r. Each r.passes (λ k p. P i r k p))
   no_pass P i r e k p f = absurd (none_stands r.passes k p (quiet i r e).passes f)
 
   no_early : (P : ℕ → Row → ℕ → Update → Type 0) → Each rows (λ i r. Each r.earlies (λ k u. P i r k u))
   no_early P i r e k u f = absurd (none_stands r.earlies k u (quiet i r e).earlies f)
 
-  pub quiet_is_safe : SafeRows team rows
+  pub quiet_is_safe : SafeDeliveries team rows
   quiet_is_safe = record {
-    one_started_group = none_up _;
     same_deliveries = record {
       passes = λ i r e j s f one same a x g l m k p h. absurd (none_stands x.passes k p (quiet a x g).passes h);
       once = λ i r e j s f same k u g. absurd (none_stands (delivered r) k u (none_delivered r (quiet i r e)) g);
@@ -110,9 +100,8 @@ module _ (team : Team) (rows : List Row) (quiet : Each rows (λ i r. IsQuiet r))
     backed = record { strong = no_pass _; strict = no_pass _ };
     timed_order = λ i r e j s f same k u g. absurd (none_stands (timed r) k u (none_timed r (quiet i r e)) g);
     equal_tables = λ i r e j s f a b one same as_many. (quiet i r e).entries ∙ sym (quiet j s f).entries;
-    leased_support = none_up _;
   }
 
--- The rows of each schedule are safe.
-pub safe_rows : (team : Team) (past : List Step) → SafeRows team (rows_of team past)
-safe_rows team past = quiet_is_safe team (rows_of team past) (each_row_quiet team past)
+-- The deliveries in each schedule's rows are safe.
+pub safe_deliveries : (team : Team) (past : List Step) → SafeDeliveries team (rows_of team past)
+safe_deliveries team past = quiet_is_safe team (rows_of team past) (each_row_quiet team past)

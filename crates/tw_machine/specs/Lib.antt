@@ -8,7 +8,12 @@ pub mod Hearing
 pub mod Run
 pub mod Sending
 pub mod Beating
+pub mod Standing
 pub mod Control
+pub mod Taking
+pub mod Electing
+pub mod Deciding
+pub mod Grouping
 pub mod Rules
 pub mod Duties
 pub mod Step

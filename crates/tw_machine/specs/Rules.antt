@@ -7,28 +7,19 @@ use Rattle.tw_types.specs.declared.datagram.Body.{Body}
 use Rattle.tw_types.specs.declared.datagram.Body.TheVariants as bodies
 use Rattle.tw_types.specs.declared.datagram.Datagram.{Datagram}
 use Rattle.tw_types.specs.declared.answer.Reason.{Reason}
-use Rattle.tw_machine.specs.Run.{Run}
-
--- a run after the rule of its event, and why the event is dropped, if it is
-pub record Ruled : Type 0 where
-  pub run : Run
-  pub dropped : Option Reason
-
--- the event isn't dropped
-abbrev pub done : Run → Ruled
-done r = record { run = r; dropped = None }
-
--- the event is dropped, and leaves all as it was
-abbrev pub dropped : Reason → Run → Ruled
-dropped reason r = record { run = r; dropped = Some reason }
+use Rattle.tw_machine.specs.Run.{Run, Ruled, done, dropped}
+use Rattle.tw_machine.specs.Control.{if_timely}
+use Rattle.tw_machine.specs.Taking.{take_decision}
+use Rattle.tw_machine.specs.Electing.{answer_election}
+use Rattle.tw_machine.specs.Grouping.{take_promise}
 
 -- The rule of each kind. A sign of life does nothing, and a kind that isn't taken has no rule yet.
 unfoldable pub kind_rule : Team → Moment → Head → Body → Run → Ruled
 kind_rule team now head (bodies.Update kept) r = done r
-kind_rule team now head (bodies.Decision d) r = done r
+kind_rule team now head (bodies.Decision d) r = if_timely team now head (λ t. take_decision d) r
 kind_rule team now head (bodies.NoDecision number group turn skip reports best) r = done r
-kind_rule team now head (bodies.Election number why) r = done r
-kind_rule team now head (bodies.Promise number report d) r = done r
+kind_rule team now head (bodies.Election number why) r = if_timely team now head (answer_election team now head.from number why) r
+kind_rule team now head (bodies.Promise number report d) r = if_timely team now head (λ t. take_promise (record { number = number; report = report; decision = d })) r
 kind_rule team now head (bodies.Ask want) r = done r
 kind_rule team now head (bodies.State group position total offset bytes) r = done r
 kind_rule team now head (bodies.Sync ready) r = done r

@@ -1,7 +1,8 @@
 -- The run of one event through the parts of a step.
-use Rattle.std.specs.Prelude.{ℕ, List, [], ◌++◌}
+use Rattle.std.specs.Prelude.{ℕ, List, [], ◌++◌, Option, Some, None}
 use Rattle.tw_types.specs.declared.datagram.Datagram.{Datagram}
 use Rattle.tw_types.specs.declared.outputs.Outputs.{Outputs}
+use Rattle.tw_types.specs.declared.answer.Reason.{Reason}
 use Rattle.tw_types.specs.Outputs.{nothing}
 use Rattle.tw_types.specs.Process.{Process}
 use Rattle.tw_types.specs.Votes.{Promise, Making}
@@ -21,3 +22,16 @@ run_of p = record { process = p; out = nothing; promises = []; makings = [] }
 -- these are sent too
 abbrev pub with_sends : List (ℕ × Datagram) → Run → Run
 with_sends sends r = record r { out = record (r.out) { sends = r.out.sends ++ sends } }
+
+-- a run after the rule of its event, and why the event is dropped, if it is
+pub record Ruled : Type 0 where
+  pub run : Run
+  pub dropped : Option Reason
+
+-- the event isn't dropped
+abbrev pub done : Run → Ruled
+done r = record { run = r; dropped = None }
+
+-- the event is dropped, and leaves all as it was
+abbrev pub dropped : Reason → Run → Ruled
+dropped reason r = record { run = r; dropped = Some reason }

@@ -8,10 +8,14 @@ use Rattle.tw_types.specs.declared.answer.Answer.{Answer}
 use Rattle.tw_types.specs.declared.answer.Answer.TheVariants.{Done, Dropped}
 use Rattle.tw_types.specs.declared.outputs.View.{View}
 use Rattle.tw_types.specs.Process.{Process}
+use Rattle.tw_types.specs.Beliefs.{log_length}
+use Rattle.tw_types.specs.Decisions.{or_none}
+use Rattle.tw_types.specs.Flag.{is_up}
+use Rattle.tw_machine.specs.Standing.{last_decision}
 use Rattle.tw_machine.specs.Event.{Event, Tick, Packet, Reference, Outcome}
 use Rattle.tw_machine.specs.Hearing.{Learnt, learn, read}
-use Rattle.tw_machine.specs.Run.{Run, run_of}
-use Rattle.tw_machine.specs.Rules.{Ruled, rule}
+use Rattle.tw_machine.specs.Run.{Run, Ruled, run_of}
+use Rattle.tw_machine.specs.Rules.{rule}
 use Rattle.tw_machine.specs.Duties.{duties}
 
 -- a packet is taken or not, and what the event tells of time is noted and given to the clock
@@ -52,14 +56,14 @@ step team h e p = outcome_of (answer_by (ruled_by team h e p).dropped) (ended_by
 abbrev pub looked : Team → ℕ → Process → Process
 looked team h p = record p { timing = read team h p.timing }
 
--- what a process says of itself at its reading h; as long as there are no groups it is up in none
+-- what a process says of itself at its reading h
 abbrev pub view_of : Team → ℕ → Process → View
 view_of team h p = record {
   incarnation = p.identity.incarnation;
   reading = reading_at team.ppm team.eps h p.timing.clock;
-  up = false;
-  group = 0;
-  turn = 0;
-  length = 0;
-  passed = 0;
+  up = is_up team p.vote p.belief (reading_at team.ppm team.eps h p.timing.clock);
+  group = (or_none (last_decision p)).group;
+  turn = (or_none (last_decision p)).turn;
+  length = log_length p.log;
+  passed = p.log.passed;
 }

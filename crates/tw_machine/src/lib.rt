@@ -5,5 +5,6 @@
 mod laws;
 
 pub use laws::{
-    bounds_cover_every_delay, clocks_hold_team_time, lines_spell_once, rows_print_once,
+    bounds_cover_every_delay, clocks_hold_team_time, duties_exclude_each_other, lines_spell_once,
+    rows_print_once, timely_datagrams_are_done,
 };

@@ -1,5 +1,5 @@
 -- What an act makes of a process, and what is seen of it then.
-use Rattle.std.proofs.Common.{◌≡◌, refl, sym, ap, subst, ◌∙◌, ℕ, true, false, List, Option, Some, None, Ok}
+use Rattle.std.proofs.Common.{◌≡◌, refl, sym, ap, subst, ◌∙◌, ℕ, true, List, Option, Some, None, Ok}
 use Rattle.std.specs.Option.{option_map}
 use Rattle.tw_num.specs.Clock.{IsNotBefore}
 use Rattle.tw_types.specs.declared.team.Team.{Team}
@@ -21,10 +21,14 @@ use Rattle.tw_machine.specs.Dispatches.{Dispatch}
 use Rattle.tw_machine.specs.Admissible.{was_sent_to}
 use Rattle.tw_machine.specs.Event.{Event, Packet}
 use Rattle.tw_machine.specs.Event as machine
+use Rattle.tw_types.specs.Beliefs.{log_length}
+use Rattle.tw_types.specs.Decisions.{or_none}
+use Rattle.tw_types.specs.Flag.{is_up}
+use Rattle.tw_machine.specs.Standing.{last_decision}
 use Rattle.tw_machine.specs.Step.{step, looked, view_of}
 use Rattle.tw_machine.specs.World.{Deed, row_answer, happen, receive, deed}
 use Rattle.tw_machine.proofs.Clocks.{reading_again}
-use Rattle.node_core.specs.declared.process.Core.{Core}
+use Rattle.node_core.specs.declared.state.State.{State}
 use Rattle.node_core.specs.StandsFor.{StandsFor}
 use Rattle.tw_machine.proofs.Tables.{at_number}
 use Rattle.tw_machine.proofs.Steps.{step_not_before, looked_after}
@@ -35,7 +39,7 @@ use Rattle.world.proofs.Bytes.{numbered-map}
 
 -- ---- acts
 
-pub taken_done : (team : Team) (h : ℕ) (e : Event) (new : Core) (a : Answer) (out : Outputs) (p : Process) → IsNotBefore h p.timing.clock → new.team ≡ team → HasTaken team h e new a out p
+pub taken_done : (team : Team) (h : ℕ) (e : Event) (new : State) (a : Answer) (out : Outputs) (p : Process) → IsNotBefore h p.timing.clock → new.team ≡ team → HasTaken team h e new a out p
     → IsDone team h new (row_answer a) out (happen team h e p)
 taken_done team h e new a out p known same taken = record {
   process = (step team h e p).process;
@@ -47,17 +51,17 @@ taken_done team h e new a out p known same taken = record {
 }
 
 -- a core that takes an event, for each process that it stands for
-abbrev pub Takes : Core → ℕ → Event → Core → Answer → Outputs → Type 0
+abbrev pub Takes : State → ℕ → Event → State → Answer → Outputs → Type 0
 Takes c h e new a out = (p : Process) → StandsFor c p → IsNotBefore h p.timing.clock → HasTaken c.team h e new a out p
 
-pub tick_done : (team : Team) (who h : ℕ) (act : Act) (sent : List Dispatch) (c new : Core) (a : Answer) (out : Outputs) (before : Option Process) → act ≡ acts.Tick
+pub tick_done : (team : Team) (who h : ℕ) (act : Act) (sent : List Dispatch) (c new : State) (a : Answer) (out : Outputs) (before : Option Process) → act ≡ acts.Tick
     → IsReady team who h act (Some c) before → new.team ≡ c.team → Takes c h machine.Event.Tick new a out → IsDone team h new (row_answer a) out (deed team who h sent act before)
 tick_done team who h act sent c new a out None is ready same takes = absurd (let r = rw is at ready in cc)
 tick_done team who h act sent c new a out (Some p) is ready same takes =
     let r = rw is at ready in
     rw is (taken_done team h machine.Event.Tick new a out p r.1 (same ∙ r.0.0) (subst (λ (t : Team). HasTaken t h machine.Event.Tick new a out p) r.0.0 (takes p r.0.1 r.1)))
 
-pub reference_done : (team : Team) (who h lo hi : ℕ) (act : Act) (sent : List Dispatch) (c new : Core) (a : Answer) (out : Outputs) (before : Option Process) → act ≡ Reference lo hi
+pub reference_done : (team : Team) (who h lo hi : ℕ) (act : Act) (sent : List Dispatch) (c new : State) (a : Answer) (out : Outputs) (before : Option Process) → act ≡ Reference lo hi
     → IsReady team who h act (Some c) before → new.team ≡ c.team → Takes c h (machine.Event.Reference lo hi) new a out → IsDone team h new (row_answer a) out (deed team who h sent act before)
 reference_done team who h lo hi act sent c new a out None is ready same takes = absurd (let r = rw is at ready in cc)
 reference_done team who h lo hi act sent c new a out (Some p) is ready same takes =
@@ -69,11 +73,11 @@ kept_bytes : (team : Team) (kept : Sent) (sent : List Dispatch) (k : ℕ) (d : D
 kept_bytes team kept sent k d stands e = ap (numbered k) stands.spelled ∙ numbered-map (kept_as team.line) k sent ∙ ap (option_map (kept_as team.line)) e
 
 -- a core that takes the bytes of a datagram
-abbrev pub Receives : Team → Core → ℕ → List ℕ → Core → Answer → Outputs → Type 0
+abbrev pub Receives : Team → State → ℕ → List ℕ → State → Answer → Outputs → Type 0
 Receives team c h bytes new a out = (d : Datagram) (p : Process) → DatagramFits team.n d → bytes ≡ spelling team.line d → c.team ≡ team → StandsFor c p → IsNotBefore h p.timing.clock
     → HasTaken team h (Packet (Ok d)) new a out p
 
-pub receive_done : (team : Team) (who h k : ℕ) (act : Act) (kept : Sent) (sent : List Dispatch) (bytes : List ℕ) (c new : Core) (a : Answer) (out : Outputs) (before : Option Process) → act ≡ Recv k
+pub receive_done : (team : Team) (who h k : ℕ) (act : Act) (kept : Sent) (sent : List Dispatch) (bytes : List ℕ) (c new : State) (a : Answer) (out : Outputs) (before : Option Process) → act ≡ Recv k
     → SentStandsFor team kept sent → was_sent_to who (numbered k sent) ≡ true → ((d : ℕ × List ℕ) → numbered k (datagrams kept) ≡ Some d → bytes ≡ d.1)
     → IsReady team who h act (Some c) before → new.team ≡ c.team → Receives team c h bytes new a out → IsDone team h new (row_answer a) out (deed team who h sent act before)
 receive_done team who h k act kept sent bytes c new a out None is stands there found ready same takes = absurd (let r = rw is at ready in cc)
@@ -87,7 +91,7 @@ receive_done team who h k act kept sent bytes c new a out (Some p) is stands the
     go (Some d) e w = taken_done team h (Packet (Ok d.datagram)) new a out p runs.1 (same ∙ runs.0.0)
         (takes d.datagram p (at_number (WasSendable team.n) sent k d stands.fits e).fits (found (kept_as team.line d) (kept_bytes team kept sent k d stands e)) runs.0.0 runs.0.1 runs.1)
 
-pub start_done : (team : Team) (who h : ℕ) (act : Act) (sent : List Dispatch) (c : Core) (out : Outputs) (before : Option Process) → act ≡ First → IsReady team who h act (Some c) before → out ≡ nothing
+pub start_done : (team : Team) (who h : ℕ) (act : Act) (sent : List Dispatch) (c : State) (out : Outputs) (before : Option Process) → act ≡ First → IsReady team who h act (Some c) before → out ≡ nothing
     → IsDone team h c RowAnswer.Start out (deed team who h sent act before)
 start_done team who h act sent c out before is ready gives = let r = rw is at ready in rw is (record {
   process = started who modes.First h;
@@ -98,7 +102,7 @@ start_done team who h act sent c out before is ready gives = let r = rw is at re
   out = gives;
 })
 
-pub look_done : (team : Team) (who h : ℕ) (act : Act) (sent : List Dispatch) (c : Core) (out : Outputs) (before : Option Process) → act ≡ Look → IsReady team who h act (Some c) before → out ≡ nothing
+pub look_done : (team : Team) (who h : ℕ) (act : Act) (sent : List Dispatch) (c : State) (out : Outputs) (before : Option Process) → act ≡ Look → IsReady team who h act (Some c) before → out ≡ nothing
     → IsDone team h c RowAnswer.Look out (deed team who h sent act before)
 look_done team who h act sent c out None is ready gives = absurd (let r = rw is at ready in cc)
 look_done team who h act sent c out (Some p) is ready gives = let r = rw is at ready in rw is (record {
@@ -112,13 +116,13 @@ look_done team who h act sent c out (Some p) is ready gives = let r = rw is at r
 
 -- ---- the look that ends each step
 
-pub seen : (team : Team) (h : ℕ) (c new : Core) (a : RowAnswer) (v : View) (out : Outputs) (before : Option Process) (d : Deed) → IsDone team h c a out d → new.team ≡ c.team
+pub seen : (team : Team) (h : ℕ) (c new : State) (a : RowAnswer) (v : View) (out : Outputs) (before : Option Process) (d : Deed) → IsDone team h c a out d → new.team ≡ c.team
     → ((p : Process) → StandsFor c p → IsNotBefore h p.timing.clock → StandsFor new (looked c.team h p)) → ((p : Process) → StandsFor c p → IsNotBefore h p.timing.clock → v ≡ view_of c.team h p)
     → IsDeed team h (Some new) a v out before d
 seen team h c new a v out before d done same stands view = record {
   running = rw done.looked (same ∙ done.running.0, subst (λ (t : Team). StandsFor new (looked t h done.process)) done.running.0 (stands done.process done.running.1 done.known));
   answer = done.answer;
   view = rw done.looked (subst (λ (t : Team). v ≡ view_of t h done.process) done.running.0 (view done.process done.running.1 done.known)
-      ∙ ap (λ (r : Option ℕ). record { incarnation = done.process.identity.incarnation; reading = r; up = false; group = 0; turn = 0; length = 0; passed = 0 }) (sym (reading_again team.ppm team.eps h done.process.timing.clock)));
+      ∙ ap (λ (r : Option ℕ). record { incarnation = done.process.identity.incarnation; reading = r; up = is_up team done.process.vote done.process.belief r; group = (or_none (last_decision done.process)).group; turn = (or_none (last_decision done.process)).turn; length = log_length done.process.log; passed = done.process.log.passed }) (sym (reading_again team.ppm team.eps h done.process.timing.clock)));
   out = done.out;
 }

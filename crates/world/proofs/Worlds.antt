@@ -15,7 +15,7 @@ use Rattle.tw_machine.specs.Admissible.{cause_of, may_receive}
 use Rattle.tw_machine.proofs.Tables.{all_joined, all_mapped}
 use Rattle.tw_machine.specs.Rows.{row_of, line_by}
 use Rattle.tw_machine.specs.World.{world, deed, deed_in}
-use Rattle.node_core.specs.declared.process.Core.{Core}
+use Rattle.node_core.specs.declared.state.State.{State}
 use Rattle.node_core.specs.Sends.{IsSendable}
 use Rattle.world.specs.declared.node.Node.{Node}
 use Rattle.world.specs.declared.sent.Sent.{Sent}
@@ -138,7 +138,7 @@ next_world team past w new s q stands none own sent same steps latest items = re
     written i x (Left other old) = next_other team past s i x other (stands.each i x old)
 
 -- the row of a step, by what the step came to
-pub next_row : (team : Team) (past : List Step) (s : Step) (number first : ℕ) (c : Option Core) (a : RowAnswer) (v : View) (out : Outputs) → number ≡ length past + 1 → first ≡ length (world team past).sent + 1
+pub next_row : (team : Team) (past : List Step) (s : Step) (number first : ℕ) (c : Option State) (a : RowAnswer) (v : View) (out : Outputs) → number ≡ length past + 1 → first ≡ length (world team past).sent + 1
     → IsDeed team s.h c a v out ((world team past).process_of s.who) (deed_in team (world team past) s)
     → row_printed (line_by number s.who a v) out first [] ≡ row_of team past s
 next_row team past s number first c a v out n f deed = rw (n, f, deed.answer, deed.view, deed.out) refl

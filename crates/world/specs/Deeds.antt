@@ -14,11 +14,11 @@ use Rattle.tw_machine.specs.Event.{Event}
 use Rattle.tw_machine.specs.Rows.{columns}
 use Rattle.tw_machine.specs.Step.{step, looked}
 use Rattle.tw_machine.specs.World.{Deed}
-use Rattle.node_core.specs.declared.process.Core.{Core}
+use Rattle.node_core.specs.declared.state.State.{State}
 use Rattle.node_core.specs.StandsFor as core
 
 -- there is a core exactly where a process runs, and it stands for that process
-abbrev pub RunsAs : Team → Option Core → Option Process → Type 0
+abbrev pub RunsAs : Team → Option State → Option Process → Type 0
 RunsAs team None None = Unit {0}
 RunsAs team (Some c) (Some q) = (c.team ≡ team) × core.StandsFor c q
 RunsAs team None (Some q) = ⊥
@@ -31,7 +31,7 @@ NotBefore h (Some q) = IsNotBefore h q.timing.clock
 
 -- A core that is ready for an act at h of the process that was there before: one that starts was just made, any other one
 -- runs and was given nothing later. An act that isn't built has none.
-abbrev pub IsReady : Team → ℕ → ℕ → Act → Option Core → Option Process → Type 0
+abbrev pub IsReady : Team → ℕ → ℕ → Act → Option State → Option Process → Type 0
 IsReady team who h First c before = RunsAs team c (Some (started who modes.First h))
 IsReady team who h Again c before = ⊥
 IsReady team who h Crash c before = ⊥
@@ -42,13 +42,13 @@ IsReady team who h (Reference lo hi) c before = RunsAs team c before × NotBefor
 IsReady team who h Look c before = RunsAs team c before × NotBefore h before × IsSome before
 
 -- The core took an event at h that happened to this process.
-pub record HasTaken (team : Team) (h : ℕ) (e : Event) (c : Core) (a : Answer) (o : Outputs) (p : Process) : Type 0 where
+pub record HasTaken (team : Team) (h : ℕ) (e : Event) (c : State) (a : Answer) (o : Outputs) (p : Process) : Type 0 where
   pub process : core.StandsFor c (step team h e p).process
   pub answer : a ≡ (step team h e p).answer
   pub out : o ≡ (step team h e p).out
 
 -- what an act came to, before the process is looked at: looking at it is all that is left
-pub record IsDone (team : Team) (h : ℕ) (c : Core) (a : RowAnswer) (o : Outputs) (d : Deed) : Type 0 where
+pub record IsDone (team : Team) (h : ℕ) (c : State) (a : RowAnswer) (o : Outputs) (d : Deed) : Type 0 where
   pub process : Process
   pub running : RunsAs team (Some c) (Some process)
   pub known : IsNotBefore h process.timing.clock
@@ -57,7 +57,7 @@ pub record IsDone (team : Team) (h : ℕ) (c : Core) (a : RowAnswer) (o : Output
   pub out : o ≡ d.out
 
 -- what an act came to: what runs, how it ended, what was given, and what is seen of the process
-pub record IsDeed (team : Team) (h : ℕ) (c : Option Core) (a : RowAnswer) (v : View) (o : Outputs) (before : Option Process) (d : Deed) : Type 0 where
+pub record IsDeed (team : Team) (h : ℕ) (c : Option State) (a : RowAnswer) (v : View) (o : Outputs) (before : Option Process) (d : Deed) : Type 0 where
   pub running : RunsAs team c d.process
   pub answer : a ≡ d.answer
   pub view : v ≡ columns team h before d.process

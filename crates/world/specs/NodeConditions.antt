@@ -5,7 +5,7 @@ use Rattle.tw_types.specs.declared.step.Step.{Step}
 use Rattle.tw_types.specs.declared.step.Cause.{Cause}
 use Rattle.tw_types.specs.declared.step.Cause.TheVariants.{Time, Drift, Start, NotRunning, NoDatagram, Reference as OutsideReference}
 use Rattle.tw_machine.specs.Admissible.{Condition, first_unmet, is_start, is_first, holds_time}
-use Rattle.node_core.specs.declared.process.Core.{Core}
+use Rattle.node_core.specs.declared.state.State.{State}
 use Rattle.world.specs.declared.node.Node.{Node}
 use Rattle.world.specs.Bounds.{admits, is_above}
 
@@ -34,7 +34,7 @@ pub record IsFresh (p : Node) : Type 0 where
 abbrev pub is_of : ℕ → Node → Bool
 is_of n p = of_core p.core
   where
-    of_core : Option Core → Bool
+    of_core : Option State → Bool
     of_core None = true
     of_core (Some c) = c.team.n == n
 

@@ -1,0 +1,15 @@
+use Rattle.std.proofs.Common.{◌∙◌, refl, sym, ap}
+use Rattle.tw_types.specs.Beliefs.{last_of}
+use Rattle.tw_types.specs.Votes.{Vote}
+use Rattle.tw_types.specs.Promises.{is_quarantined}
+use Rattle.tw_machine.specs.Standing.{last_decision, report_by}
+use Rattle.node_core.proofs.Concerns.{held_by, begun_alike, only_stuck}
+use Rattle.node_core.proofs.state.State.election.Goals as goal
+
+pub returns-clause-held : goal.returns-clause-held
+returns-clause-held c = λ team r same s. held_by team c.args.now.now c.args.t r _
+    (c.begin_slot.ensures.exact ∙ begun_alike c.args.self.now.team team c.args.t _ (report_by r.process c.args.t) _ (last_decision r.process) c.args.self.now.vote.promised r.process.vote.promised _ (is_quarantined team r.process.identity c.args.now.now.h)
+    same (c.report.ensures.exact r.process s) (c.last.ensures ∙ sym (ap last_of s.belief)) (sym (ap (λ (v : Vote). v.promised) s.vote)) (c.is_quarantined.ensures ∙ rw (← same, s.identity) refl))
+
+pub returns-clause-why : goal.returns-clause-why
+returns-clause-why c = only_stuck c.args.self.now.team c.args.t _ _ c.args.self.now.vote.promised _ _ c.begin_slot.ensures.exact

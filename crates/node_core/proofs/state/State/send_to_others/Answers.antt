@@ -1,0 +1,14 @@
+use Rattle.std.proofs.Common.{ap, not, nat_eq, length, arith}
+use Rattle.tw_types.specs.declared.outputs.Outputs.{Outputs}
+use Rattle.tw_machine.specs.Sending.{datagram_to}
+use Rattle.node_core.proofs.Others.{one_more, fewer_after}
+use Rattle.node_core.proofs.state.State.send_to_others.Goals as goal
+
+pub loop-to-preserved : goal.loop-to-preserved
+loop-to-preserved c = record {
+  stands = λ team r s. one_more team c.args.self.now _ r (datagram_to c.args.now.now r.process.identity r.process.timing c.args.body.now) (λ q. not (nat_eq q r.process.identity.who)) c.loop-to.to
+      (c.send_to_other.ensures.stands team _ (c.loop-to.invariant.stands team r s));
+  fits = λ sayable before. c.send_to_other.ensures.fits sayable (c.loop-to.invariant.fits sayable before);
+  few = omega (arith, c.send_to_other.ensures.few, c.loop-to.invariant.few);
+  fewer = fewer_after (length c.args.out.now.sends) _ _ c.args.self.now.identity.who c.loop-to.to c.loop-to.invariant.fewer c.loop-to.invariant.few c.send_to_other.ensures.few (λ e. ap (λ (o : Outputs). length o.sends) (c.send_to_other.ensures.same e));
+}

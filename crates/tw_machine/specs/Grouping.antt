@@ -1,0 +1,39 @@
+-- The ballot's way to a group: promises that it takes, and the group that is made of them.
+use Rattle.std.specs.Prelude.{ℕ, if◌then◌else◌, Option, Some, None, Result, Ok, Err}
+use Rattle.tw_num.specs.declared.moment.Moment.{Moment}
+use Rattle.tw_types.specs.declared.team.Team.{Team}
+use Rattle.tw_types.specs.declared.message.Decision.{Decision}
+use Rattle.tw_types.specs.declared.ballot.Ballot.{Ballot}
+use Rattle.tw_types.specs.declared.answer.Reason.TheVariants.{Old}
+use Rattle.std.specs.Option.{option_map}
+use Rattle.tw_types.specs.Votes.{Promise}
+use Rattle.tw_types.specs.Ballots.{wants, joined, is_complete}
+use Rattle.tw_types.specs.Groups.{NoGroup, group_made, group_making}
+use Rattle.tw_machine.specs.Run.{Run, Ruled, done, dropped}
+use Rattle.tw_machine.specs.Standing.{member_of}
+use Rattle.tw_machine.specs.Electing.{ballot_dropped}
+use Rattle.tw_machine.specs.Deciding.{decision_made}
+
+-- a promise is added to the ballot of its number
+abbrev pub promise_added : Promise → Run → Run
+promise_added given r = record r { process = record (r.process) { ballot = option_map (joined given) r.process.ballot } }
+
+-- the rule of a promise that is received in time
+abbrev pub take_promise : Promise → Run → Ruled
+take_promise given r = if wants given r.process.ballot then done (promise_added given r) else dropped Old r
+
+-- a group takes its ballot away
+abbrev pub group_begun : Team → Moment → Ballot → Decision → ℕ → Run → Run
+group_begun team now ballot d t r = decision_made team now (group_making ballot d) t (ballot_dropped r)
+
+-- A complete ballot makes a group, if it can; one that can't is kept.
+abbrev pub make_group : Team → Moment → ℕ → Run → Run
+make_group team now t r = by r.process.ballot
+  where
+    begun : Ballot → Result Decision NoGroup → Run
+    begun ballot (Ok d) = group_begun team now ballot d t r
+    begun ballot (Err why) = r
+
+    by : Option Ballot → Run
+    by None = r
+    by (Some ballot) = if is_complete team t ballot then begun ballot (group_made team ballot (member_of r.process.identity) t) else r

@@ -2,6 +2,8 @@
 //! opinion on their answers. The checks, the rounds and the sums are those of the program `wire_rounds`.
 //!
 //!     rustc -O -C target-cpu=x86-64-v2 main.rs
+//!
+//! With `--cfg in_place` what is timed is a reader that fills one datagram.
 
 use std::time::{Duration, Instant};
 
@@ -640,6 +642,231 @@ fn read(team: &Team, bytes: &[u8]) -> Result<Datagram, Fault> {
         return Err(Fault::Long);
     }
     Ok(Datagram { head, body })
+}
+
+// ---- reading in place
+
+#[cfg(in_place)]
+fn blank() -> Datagram {
+    let head = Head {
+        from: 0,
+        to: 0,
+        incarnation: 0,
+        sent: 0,
+        interval: None,
+        echo: None,
+    };
+    Datagram {
+        head,
+        body: Body::Sync { ready: None },
+    }
+}
+
+#[cfg(in_place)]
+impl Reader<'_> {
+    fn text_into<const N: usize>(
+        &mut self,
+        count: usize,
+        list: &mut List<u8, N>,
+    ) -> Result<(), Fault> {
+        let text = self
+            .bytes
+            .get(self.place..self.place + count)
+            .ok_or(Fault::Short)?;
+        self.place += count;
+        list.items[..count].copy_from_slice(text);
+        list.len = count;
+        Ok(())
+    }
+
+    fn decision_into(
+        &mut self,
+        n: u8,
+        told: Option<(u64, u64)>,
+        decision: &mut Decision,
+    ) -> Result<(), Fault> {
+        decision.group = self.positive()?;
+        self.where_allowed(told.map_or(true, |told| told.0 == decision.group), 8)?;
+        decision.turn = self.count()?;
+        self.where_allowed(told.map_or(true, |told| told.1 == decision.turn), 8)?;
+        decision.made = self.count()?;
+        decision.start = self.time()?;
+        decision.low = self.count()?;
+        decision.mark = TimeMark {
+            stamp: self.count()?,
+            who: self.byte_below(n)?,
+            seq: self.u32()?,
+        };
+        let count = self.byte()?;
+        self.where_allowed((n / 2 + 1..=n).contains(&count), 1)?;
+        decision.seats.len = 0;
+        for _ in 0..count {
+            let seat = self.seat(n, decision.seats.as_slice())?;
+            decision.seats.push(seat);
+        }
+        let seats = decision.seats.as_slice();
+        let made = decision.made;
+        let maker = self.byte()?;
+        let is_maker =
+            |seat: &Seat| seat.member.who == maker && seat.support.is_some_and(|s| s.at == made);
+        self.where_allowed(seats.iter().any(is_maker), 1)?;
+        decision.maker = maker;
+        let count = self.byte()?;
+        let end = decision.low + u64::from(count);
+        let within = |seat: &Seat| seat.support.map_or(true, |s| s.ack <= end);
+        let allowed = count <= 32 && end < COUNT && seats.iter().all(within);
+        self.where_allowed(allowed, 1)?;
+        decision.window.len = 0;
+        for _ in 0..count {
+            let entry = self.entry(n, true)?;
+            decision.window.push(entry);
+        }
+        Ok(())
+    }
+
+    /// Fills a body of this kind. One of another kind is read as a new one.
+    fn body_into(&mut self, n: u8, kind: u8, head: &Head, body: &mut Body) -> Result<(), Fault> {
+        match (kind, &mut *body) {
+            (1, Body::Update(kept)) => {
+                kept.entry = self.entry(n, false)?;
+                let size = self.u16()?;
+                self.where_allowed(size <= 128, 2)?;
+                self.text_into(size.into(), &mut kept.payload)
+            }
+            (2, Body::Decision(decision)) => self.decision_into(n, None, decision),
+            (
+                3,
+                Body::NoDecision {
+                    number,
+                    group,
+                    turn,
+                    skip,
+                    reports,
+                    best,
+                },
+            ) => {
+                *number = self.positive()?;
+                *group = self.positive()?;
+                *turn = self.count()?;
+                *skip = self.byte_below(n)?;
+                let count = self.byte()?;
+                self.where_allowed((1..=n).contains(&count), 1)?;
+                reports.len = 0;
+                for _ in 0..count {
+                    let report = self.report(n, *number, None, reports.as_slice())?;
+                    reports.push(report);
+                }
+                let all = reports.as_slice().iter();
+                let latest = all.map(|report| (report.group, report.turn)).max();
+                self.decision_into(n, latest, best)
+            }
+            (
+                5,
+                Body::Promise {
+                    number,
+                    report,
+                    decision: Some(decision),
+                },
+            ) => {
+                *number = self.positive()?;
+                let sender = Member {
+                    who: head.from,
+                    incarnation: head.incarnation,
+                };
+                *report = self.report(n, *number, Some(sender), &[])?;
+                let expected = report.kind == Kind::Informed && report.group >= 1;
+                let present = self.byte()?;
+                self.where_allowed(present == u8::from(expected), 1)?;
+                if expected {
+                    self.decision_into(n, Some((report.group, report.turn)), decision)
+                } else {
+                    *body = Body::Promise {
+                        number: *number,
+                        report: *report,
+                        decision: None,
+                    };
+                    Ok(())
+                }
+            }
+            (
+                5,
+                Body::Promise {
+                    number,
+                    report,
+                    decision,
+                },
+            ) => {
+                *number = self.positive()?;
+                let sender = Member {
+                    who: head.from,
+                    incarnation: head.incarnation,
+                };
+                *report = self.report(n, *number, Some(sender), &[])?;
+                let expected = report.kind == Kind::Informed && report.group >= 1;
+                let present = self.byte()?;
+                self.where_allowed(present == u8::from(expected), 1)?;
+                if expected {
+                    *decision = Some(self.decision(n, Some((report.group, report.turn)))?);
+                }
+                Ok(())
+            }
+            (6, Body::Ask(want)) => {
+                *want = self.want(n)?;
+                Ok(())
+            }
+            (
+                7,
+                Body::State {
+                    group,
+                    position,
+                    total,
+                    offset,
+                    bytes,
+                },
+            ) => {
+                *group = self.positive()?;
+                *position = self.count()?;
+                *total = self.u16()?;
+                self.where_allowed((1..=4096).contains(total), 2)?;
+                *offset = self.u16()?;
+                self.where_allowed(*offset < *total && *offset % 1024 == 0, 2)?;
+                let size = self.u16()?;
+                self.where_allowed(size == (*total - *offset).min(1024), 2)?;
+                self.text_into(size.into(), bytes)
+            }
+            (8, Body::Sync { ready }) => {
+                *ready = self.sync()?;
+                Ok(())
+            }
+            (4, Body::Election { number, why }) => {
+                *number = self.positive()?;
+                *why = if self.byte_to(1)? == 0 {
+                    self.zeros(1)?;
+                    Why::Stuck
+                } else {
+                    Why::Join(self.positive()?)
+                };
+                Ok(())
+            }
+            _ => {
+                *body = self.body(n, kind, head)?;
+                Ok(())
+            }
+        }
+    }
+}
+
+#[cfg(in_place)]
+#[inline(never)]
+fn read_into(team: &Team, bytes: &[u8], datagram: &mut Datagram) -> Result<(), Fault> {
+    let mut reader = Reader { bytes, place: 0 };
+    let (head, kind) = reader.head(team)?;
+    datagram.head = head;
+    reader.body_into(team.n, kind, &head, &mut datagram.body)?;
+    if bytes.len() > reader.place {
+        return Err(Fault::Long);
+    }
+    Ok(())
 }
 
 // ---- writing
@@ -1312,6 +1539,55 @@ fn rounds(number: u32) {
 
 // ---- rates
 
+/// A kind of datagram, and which of its two is meant.
+#[derive(Clone, Copy)]
+struct Sample {
+    /// 1 to 8, as a datagram says it.
+    kind: u8,
+    /// The longest of its kind, of a team of fifteen, and not a short one, of a team of three.
+    is_long: bool,
+}
+
+impl Sample {
+    /// What it is called.
+    fn name(self) -> &'static str {
+        match self.kind {
+            1 => "update",
+            2 => "decision",
+            3 => "no-decision",
+            4 => "election",
+            5 => "promise",
+            6 => "ask",
+            7 => "state",
+            _ => "sync",
+        }
+    }
+
+    fn size_name(self) -> &'static str {
+        if self.is_long {
+            "long"
+        } else {
+            "short"
+        }
+    }
+
+    /// Its bytes.
+    fn page(self) -> Page {
+        let mut page = head(self.kind.into());
+        match self.kind {
+            1 => update(&mut page, self.is_long),
+            2 => decision(&mut page, self.is_long),
+            3 => no_decision(&mut page, self.is_long),
+            4 => election(&mut page, self.is_long),
+            5 => promise(&mut page, self.is_long),
+            6 => ask(&mut page, self.is_long),
+            7 => state(&mut page, self.is_long),
+            _ => sync(&mut page, self.is_long),
+        }
+        page
+    }
+}
+
 /// The head of a datagram of process 0 with an interval.
 fn head(kind: u64) -> Page {
     let mut page = Page::new();
@@ -1329,45 +1605,132 @@ fn head(kind: u64) -> Page {
     page
 }
 
-/// A decision of fifteen seats and 32 entries.
-fn longest_decision() -> Page {
-    let mut page = head(2);
+/// Bytes behind their number.
+fn bytes(page: &mut Page, length: u16) {
+    page.put(2, length.into());
+    for i in 0..length {
+        page.put(1, u64::from(i % 256));
+    }
+}
+
+/// A timed update of process 2, with no payload or 128 bytes.
+fn update(page: &mut Page, is_long: bool) {
+    entry(page, 3);
+    bytes(page, if is_long { 128 } else { 0 });
+}
+
+fn entry(page: &mut Page, seq: u64) {
+    id(page, seq);
+    page.put(1, 8);
+    page.put(8, 900);
+}
+
+fn id(page: &mut Page, seq: u64) {
+    page.put(1, 2);
+    page.put(8, 5);
+    page.put(4, seq);
+}
+
+/// A decision of two seats and no entry, or of fifteen seats and 32 entries.
+fn decision(page: &mut Page, is_long: bool) {
     for number in [5, 7, 1_000, 2_000, 10, 950] {
         page.put(8, number);
     }
     page.put(1, 2);
     page.put(4, 3);
-    page.put(1, 15);
-    for who in 0..15 {
+    let seats = if is_long { 15 } else { 2 };
+    page.put(1, seats);
+    for who in 0..seats {
         page.put(1, who);
         page.put(8, 5);
         page.put(4, 9);
         page.put(1, 1);
-        page.put(8, 12);
+        page.put(8, 10);
         page.put(8, 1_000);
     }
-    page.put(1, 3);
-    page.put(1, 32);
-    for seq in 0..32 {
-        page.put(1, seq % 15);
-        page.put(8, 5);
-        page.put(4, 1 + seq);
-        page.put(1, 8);
-        page.put(8, 900 + seq);
+    page.put(1, 1);
+    let entries = if is_long { 32 } else { 0 };
+    page.put(1, entries);
+    for seq in 0..entries {
+        entry(page, seq + 1);
     }
-    page
 }
 
-fn sign_of_life() -> Page {
-    let mut page = head(8);
-    page.put(1, 1);
+/// A report behind its member.
+fn report(page: &mut Page, is_ready: bool) {
+    page.put(1, is_ready.into());
     page.put(8, 5);
     page.put(8, 7);
     page.put(8, 12);
-    page
+    page.put(1, 1);
+    page.put(8, 900);
+    page.put(8, 1_000);
 }
 
-/// Reads the text so many times, each time with another last byte of the clock's reading.
+/// One report and a short decision, or fifteen and a longest one.
+fn no_decision(page: &mut Page, is_long: bool) {
+    for number in [9, 5, 7] {
+        page.put(8, number);
+    }
+    page.put(1, 2);
+    let reports = if is_long { 15 } else { 1 };
+    page.put(1, reports);
+    for who in 0..reports {
+        page.put(1, who);
+        page.put(8, 5);
+        report(page, false);
+    }
+    decision(page, is_long);
+}
+
+/// For a process that is stuck, or for one that joins. Both have one length.
+fn election(page: &mut Page, is_long: bool) {
+    page.put(8, 9);
+    page.put(1, is_long.into());
+    page.put(8, if is_long { 5 } else { 0 });
+}
+
+/// Of a process that is ready, or of one with a longest decision.
+fn promise(page: &mut Page, is_long: bool) {
+    page.put(8, 9);
+    page.put(1, 0);
+    page.put(8, 5);
+    report(page, !is_long);
+    page.put(1, is_long.into());
+    if is_long {
+        decision(page, true);
+    }
+}
+
+/// For the application's content, or for an update.
+fn ask(page: &mut Page, is_long: bool) {
+    page.put(1, (!is_long).into());
+    if is_long {
+        id(page, 3);
+    } else {
+        page.put(8, 5);
+    }
+}
+
+/// A piece of one byte, or of 1,024.
+fn state(page: &mut Page, is_long: bool) {
+    page.put(8, 5);
+    page.put(8, 10);
+    page.put(2, if is_long { 4_096 } else { 1 });
+    page.put(2, 0);
+    bytes(page, if is_long { 1_024 } else { 1 });
+}
+
+/// Of a process that isn't ready, or of one that is. Both have one length.
+fn sync(page: &mut Page, is_long: bool) {
+    page.put(1, is_long.into());
+    for number in [5, 7, 12] {
+        page.put(8, if is_long { number } else { 0 });
+    }
+}
+
+/// Reads the text so many times, as a new value, each time with another last byte of the clock's reading.
+#[cfg(not(in_place))]
 fn read_all(team: &Team, page: &mut Page, rounds: u32) -> u64 {
     let mut sum = 0u64;
     for i in 0..rounds {
@@ -1376,6 +1739,51 @@ fn read_all(team: &Team, page: &mut Page, rounds: u32) -> u64 {
         }
         if let Ok(datagram) = read(team, page.text(page.end)) {
             sum = sum.wrapping_add(datagram.head.sent);
+        }
+    }
+    sum
+}
+
+/// The same into one place.
+#[cfg(in_place)]
+fn read_all(team: &Team, page: &mut Page, rounds: u32) -> u64 {
+    let mut inbox = blank();
+    let mut sum = 0u64;
+    for i in 0..rounds {
+        if let Some(byte) = page.bytes.get_mut(23) {
+            *byte = (i % 256) as u8;
+        }
+        if read_into(team, page.text(page.end), &mut inbox).is_ok() {
+            sum = sum.wrapping_add(inbox.head.sent);
+        }
+    }
+    sum
+}
+
+/// Reads the two texts in turn, so many times in all.
+#[cfg(not(in_place))]
+fn read_in_turn(team: &Team, pair: (&[u8], &[u8]), rounds: u32) -> u64 {
+    let (first, second) = pair;
+    let mut sum = 0u64;
+    for i in 0..rounds {
+        let text = if i % 2 == 0 { first } else { second };
+        if let Ok(datagram) = read(team, text) {
+            sum = sum.wrapping_add(datagram.head.incarnation);
+        }
+    }
+    sum
+}
+
+/// The same into one place.
+#[cfg(in_place)]
+fn read_in_turn(team: &Team, pair: (&[u8], &[u8]), rounds: u32) -> u64 {
+    let (first, second) = pair;
+    let mut inbox = blank();
+    let mut sum = 0u64;
+    for i in 0..rounds {
+        let text = if i % 2 == 0 { first } else { second };
+        if read_into(team, text, &mut inbox).is_ok() {
+            sum = sum.wrapping_add(inbox.head.incarnation);
         }
     }
     sum
@@ -1401,13 +1809,14 @@ fn rate(rounds: u32, time: Duration) -> u128 {
     u128::from(rounds) * 1_000_000 / micros
 }
 
-fn print_one(what: &str, mut page: Page, rounds: u32) {
-    let team = Team { n: 15, line: 7 };
+fn print_one(sample: Sample, rounds: u32) {
+    let n = if sample.is_long { 15 } else { 3 };
+    let team = Team { n, line: 7 };
+    let mut page = sample.page();
     let start = Instant::now();
     let read_sum = read_all(&team, &mut page, rounds);
     let read_time = start.elapsed();
     let first = read(&team, page.text(page.end));
-    page.put(0, 0);
     if let Some(byte) = page.bytes.get_mut(23) {
         *byte ^= 1;
     }
@@ -1417,7 +1826,10 @@ fn print_one(what: &str, mut page: Page, rounds: u32) {
         let write_sum = write_all(&team, (&first, &second), rounds);
         let write_time = start.elapsed();
         println!(
-            "{what} read {} written {} sum {}",
+            "{}-{} {} read {} written {} sum {}",
+            sample.name(),
+            sample.size_name(),
+            page.end,
             rate(rounds, read_time),
             rate(rounds, write_time),
             read_sum.wrapping_add(write_sum)
@@ -1425,10 +1837,35 @@ fn print_one(what: &str, mut page: Page, rounds: u32) {
     }
 }
 
-/// Prints the rates of the longest decision and of a sign of life.
+/// A decision and a sign of life, in turn.
+fn print_in_turn(is_long: bool, rounds: u32) {
+    let n = if is_long { 15 } else { 3 };
+    let team = Team { n, line: 7 };
+    let decision = Sample { kind: 2, is_long };
+    let first = decision.page();
+    let second = Sample { kind: 8, is_long }.page();
+    let pair = (first.text(first.end), second.text(second.end));
+    let start = Instant::now();
+    let sum = read_in_turn(&team, pair, rounds);
+    let time = start.elapsed();
+    println!(
+        "in-turn-{} {} read {} written 0 sum {sum}",
+        decision.size_name(),
+        first.end,
+        rate(rounds, time)
+    );
+}
+
+/// Prints the rates of a short and a longest datagram of each kind, and of two kinds in turn.
 fn print(rounds: u32) {
-    print_one("decision", longest_decision(), rounds);
-    print_one("sync", sign_of_life(), rounds);
+    for kind in 1..=8 {
+        for is_long in [false, true] {
+            print_one(Sample { kind, is_long }, rounds);
+        }
+    }
+    for is_long in [false, true] {
+        print_in_turn(is_long, rounds);
+    }
 }
 
 fn main() {

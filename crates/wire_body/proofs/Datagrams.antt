@@ -1,6 +1,6 @@
 -- Bodies and whole datagrams: what is read is spelled so, and what is spelled so is read.
 use Rattle.std.proofs.Common.{append_assoc, ◌≡◌, ℕ, ◌+◌, ◌-◌, ◌*◌, ◌^◌, ◌<◌, ◌≤◌, true, false, nat_le, ◌==◌, List, [], ◌++◌, length, drop, Option, None, Result, Ok, Err, refl, sym, ap, subst, ◌∙◌, arith}
-use Rattle.std.specs.Prelude.{IfOk, IfSome}
+use Rattle.std.specs.Prelude.{OnOk, IfSome}
 use Rattle.std.proofs.lemmas.Bool.{eqb-true}
 use Rattle.std.proofs.lemmas.Bool.Decides.{nat_tests}
 use Rattle.std.proofs.lemmas.List.{append-nil, drop_all, length-drop}
@@ -21,6 +21,7 @@ use Rattle.wire_head.specs.Reading.{◌>>=◌, where_allowed, head_at}
 use Rattle.wire_head.proofs.Numbers.{IsBytes, Reads, bind_ok, allowed_ok}
 use Rattle.wire_head.proofs.Steps.{renamed, made_reads, if_reads, cut_either}
 use Rattle.wire_head.proofs.Heads.{IsKind, head_reads}
+use Rattle.wire_body.specs.Lists.{Leaves}
 use Rattle.wire_body.specs.Decisions.{decision_at, decision_size}
 use Rattle.wire_body.specs.Votes.{Promised, promise_at, promise_of, optional_size, Gathered, no_decision_at, no_decision_of}
 use Rattle.wire_body.specs.Reading.{update_at, election_at, election_of, want_at, want_end, Piece, piece_at, state_of, sync_at, body_at, datagram_at}
@@ -234,8 +235,16 @@ datagram_longer team bytes line small fits d more is some spelled =
     let ended : nat_le (length bytes) (end_of d.body) ≡ false = let lt : end_of d.body < length bytes = omega arith in grind (arith, nat_tests) in
     rw (front.0, back.0, ended) refl
 
--- what the reader says of its answer
-pub is_found : (team : Team) (bytes : List ℕ) (r : Result Datagram WireFault) → team.line < 2 ^ 32 → team.n < 2 ^ 8 → IsBytes bytes → r ≡ datagram_at team bytes
-    → IfOk r (λ d. DatagramFits team.n d × (bytes ≡ spelling team.line d))
-is_found team bytes (Ok d) line small fits e = let a = datagram_takes team bytes line small fits d (sym e) in (a.fits, a.spelled)
-is_found team bytes (Err f) line small fits e = tt
+-- what a reader that fills a datagram says of its answer
+pub left_found : (team : Team) (bytes : List ℕ) (r : Result (Unit {0}) WireFault) (left : Datagram) → team.line < 2 ^ 32 → team.n < 2 ^ 8 → IsBytes bytes → Leaves r left (datagram_at team bytes)
+    → OnOk r (DatagramFits team.n left × (bytes ≡ spelling team.line left))
+left_found team bytes (Ok done) left line small fits e = let a = datagram_takes team bytes line small fits left e in (a.fits, a.spelled)
+left_found team bytes (Err f) left line small fits e = tt
+
+pub left_again : (r : Result (Unit {0}) WireFault) (left : Datagram) (read : Result Datagram WireFault) (d : Datagram) → Leaves r left read → read ≡ Ok d → (r ≡ Ok tt) × (left ≡ d)
+left_again (Ok done) left read d e is = (refl, grind (arith, e, is))
+left_again (Err f) left read d e is = absurd (grind (arith, e, is))
+
+pub left_fault : (r : Result (Unit {0}) WireFault) (left : Datagram) (read : Result Datagram WireFault) (f : WireFault) → Leaves r left read → read ≡ Err f → r ≡ Err f
+left_fault (Ok done) left read f e is = absurd (grind (arith, e, is))
+left_fault (Err g) left read f e is = grind (arith, e, is)

@@ -144,3 +144,7 @@ unfoldable pub datagram_at : Team → List ℕ → Result Datagram WireFault
 datagram_at team bytes = do
   head ← head_at team bytes
   whole head.0 bytes (body_at team.n head.0 head.1 bytes)
+
+-- a datagram to read into
+abbrev pub blank : Datagram
+blank = record { head = record { from = 0; to = 0; incarnation = 0; sent = 0; interval = None; echo = None }; body = bodies.Sync None }

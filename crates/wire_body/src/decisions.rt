@@ -1,6 +1,6 @@
 //! Decisions.
 
-ghost use Rattle.std.specs.Prelude.{◌≡◌, ◌==◌, ◌&&◌, ◌+◌, ◌*◌, ◌<◌, ◌≤◌, ◌^◌, nat_lt, [], length, Some, IfSome};
+ghost use Rattle.std.specs.Prelude.{◌≡◌, ◌==◌, ◌&&◌, ◌+◌, ◌*◌, ◌<◌, ◌≤◌, ◌^◌, nat_lt, length, Some, IfSome};
 ghost use Rattle.std.specs.List.{list_all, list_any};
 ghost use Rattle.tw_types.specs.declared.message.Seat.{Seat};
 ghost use Rattle.std.proofs.Common.{rules};
@@ -90,7 +90,6 @@ fn fill_seats(
     place: usize,
     seats: &mut ArrayVec<Seat, 15>,
 ) -> Result<(), WireFault>
-    requires empty { seats.old.items ≡ [] }
     requires size { n ≤ 15 }
     requires place { place < 2 ^ 13 }
     ensures { Leaves result seats.new.items (seats_at n bytes.now place) }
@@ -151,7 +150,6 @@ fn fill_window(
     place: usize,
     window: &mut ArrayVec<Entry, 32>,
 ) -> Result<(), WireFault>
-    requires empty { window.old.items ≡ [] }
     requires low { low < 2 ^ 60 }
     requires place { place < 2 ^ 13 }
     ensures { Leaves result window.new.items (window_at n low seats.now bytes.now place) }
@@ -206,7 +204,7 @@ fn told_positive_at(told: Option<u64>, bytes: &[u8], place: usize) -> Result<u64
     )
 }
 
-/// Fills an empty decision with the one at a place. Its group and its turn are those that were told, where they were.
+/// Makes a decision the one at a place, in place of what it was. Its group and its turn are those that were told, where they were.
 #[tactic(auto, unfolding(crate::specs::Decisions::decision_at, wire_head::specs::Reading::checked_at))]
 pub fn fill_decision(
     n: u8,
@@ -216,8 +214,6 @@ pub fn fill_decision(
     place: usize,
     decision: &mut Decision,
 ) -> Result<(), WireFault>
-    requires seats { decision.old.seats.items ≡ [] }
-    requires window { decision.old.window.items ≡ [] }
     requires size { n ≤ 15 }
     requires place { place < 2 ^ 12 }
     ensures { Leaves result decision.new (decision_at n told_group told_turn bytes.now place) }
@@ -244,26 +240,10 @@ pub fn fill_decision(
     )
 }
 
-/// The decision at a place. Its group and its turn are those that were told, where they were.
-pub fn decision_at(
-    n: u8,
-    told_group: Option<u64>,
-    told_turn: Option<u64>,
-    bytes: &[u8],
-    place: usize,
-) -> Result<Decision, WireFault>
-    requires size { n ≤ 15 }
-    requires place { place < 2 ^ 12 }
-    ensures { result ≡ decision_at n told_group told_turn bytes.now place }
-{
-    let mut decision = Decision::default();
-    fill_decision(n, told_group, told_turn, bytes, place, &mut decision)?;
-    Ok(decision)
-}
-
 /// The bytes of a decision.
 pub fn decision_size(decision: &Decision) -> usize
-    ensures { result ≡ decision_size decision.now }
+    ensures exact { result ≡ decision_size decision.now }
+    ensures most { result ≤ 1210 }
 {
     56 + 30 * decision.seats.len() + 22 * decision.window.len()
 }

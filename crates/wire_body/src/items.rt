@@ -1,6 +1,6 @@
 //! Lists of items that have one size: one reader and one writer for all of them.
 
-ghost use Rattle.std.specs.Prelude.{◌≡◌, ◌+◌, ◌*◌, ◌<◌, ◌≤◌, ◌^◌, [], length};
+ghost use Rattle.std.specs.Prelude.{◌≡◌, ◌+◌, ◌*◌, ◌<◌, ◌≤◌, ◌^◌, length};
 ghost use Rattle.std.specs.List.{flat_map};
 ghost use Rattle.std.specs.Int.{w8};
 ghost use Rattle.tw_types.specs.Bytes.{presence, counted};
@@ -48,8 +48,8 @@ pub trait Item: Copy + Default {
     ghost small: { SIZE < 64 };
 }
 
-/// Fills an empty list with so many items, one after the other. Each is tested where it is read, with those before it at
-/// hand.
+/// Makes a list so many items, one after the other, in place of those that it held. Each is tested where it is read, with
+/// those before it at hand.
 #[tactic(auto, using(crate::proofs::Rows::items_more, crate::proofs::Rows::items_end))]
 pub fn fill_items<T: Item, const N: usize>(
     rules: &T::Rules,
@@ -58,11 +58,11 @@ pub fn fill_items<T: Item, const N: usize>(
     place: usize,
     items: &mut ArrayVec<T, N>,
 ) -> Result<(), WireFault>
-    requires empty { items.old.items ≡ [] }
     requires count { count ≤ N }
     requires place { place + 64 * count < 2 ^ 14 }
     ensures exact { Leaves result items.new.items (list_at T.SIZE (T.item_at rules.now) count bytes.now place) }
 {
+    items.clear();
     for i in 0..usize::from(count) {
         let item = T::read(rules, items.as_slice(), bytes, place + T::SIZE * i)?;
         items.push(item);

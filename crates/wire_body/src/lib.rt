@@ -11,7 +11,7 @@ mod reading;
 mod votes;
 mod writing;
 
-pub use reading::read;
+pub use reading::{blank, read, read_into};
 pub use tw_types::WireFault;
 pub use writing::write;
 

@@ -1,6 +1,6 @@
 //! Reading a whole datagram.
 
-ghost use Rattle.std.specs.Prelude.{◌≡◌, ◌+◌, ◌<◌, ◌≤◌, ◌^◌, ◌++◌, ℕ, List, length, nat_le, None, IfOk, Ok, Err};
+ghost use Rattle.std.specs.Prelude.{◌≡◌, ◌+◌, ◌<◌, ◌≤◌, ◌^◌, ◌++◌, ℕ, List, length, nat_le, None, IfOk, OnOk, Ok, Err};
 ghost use Rattle.tw_types.specs.declared.datagram.Body.TheVariants as bodies;
 ghost use Rattle.tw_types.specs.declared.datagram.Datagram.{Datagram};
 ghost use Rattle.tw_types.specs.declared.datagram.WireFault.TheVariants.{Short, Long, Kind};
@@ -8,41 +8,40 @@ ghost use Rattle.tw_types.specs.Team.{IsSound};
 ghost use Rattle.tw_types.specs.Ranges.{DatagramFits};
 ghost use Rattle.tw_types.specs.Spelling.{spelling};
 ghost use Rattle.wire_head.specs.Reading.{where_allowed};
+ghost use Rattle.wire_body.specs.Lists.{Leaves};
 ghost use Rattle.wire_body.specs.Decisions.{decision_at, decision_size};
-ghost use Rattle.wire_body.specs.Reading.{update_at, why_at, election_at, election_of, wanted_at, want_at, want_end, piece_at, state_of, ready_at, sync_at, in_body, body_at, whole, datagram_at};
+ghost use Rattle.wire_body.specs.Reading.{update_at, why_at, election_at, election_of, wanted_at, want_at, want_end, piece_at, state_of, ready_at, sync_at, in_body, body_at, whole, datagram_at, blank};
 
-use crate::decisions::{decision_at, decision_size};
+use crate::decisions::{decision_size, fill_decision};
 use crate::entries::{entry_at, id_at};
 use crate::votes::{no_decision_in, promise_in};
 use arrayvec::ArrayVec;
-use tw_types::{Body, Datagram, Head, Kept, Team, Want, Why, WireFault};
+use tw_types::{Body, Datagram, Decision, Entry, Head, Kept, Team, Want, Why, WireFault};
 use wire_head::read_head;
 use wire_head::reading::{
     byte_to, count_at, positive_at, text_at, u16_at, u32_at, u64_at, where_allowed, zeros_at,
 };
 
-fn bytes_of<const N: usize>(text: &[u8]) -> ArrayVec<u8, N>
+/// Makes a list these bytes, in place of those that it held.
+fn fill_bytes<const N: usize>(text: &[u8], bytes: &mut ArrayVec<u8, N>)
     requires { length text.now ≤ N }
-    ensures { result ≡ record { items = text.now } }
+    ensures { bytes.new ≡ record { items = text.now } }
 {
-    let mut bytes = ArrayVec::new();
+    bytes.clear();
     let _ = bytes.try_extend_from_slice(text);
-    bytes
 }
 
 #[tactic(auto, unfolding(crate::specs::Reading::update_at, crate::specs::Lists::counted_at, wire_head::specs::Reading::checked_at))]
-fn update_at(n: u8, bytes: &[u8]) -> Result<Kept, WireFault>
-    ensures { result ≡ update_at n bytes.now }
+fn fill_update(n: u8, bytes: &[u8], kept: &mut Kept) -> Result<(), WireFault>
+    ensures { Leaves result kept.new (update_at n bytes.now) }
 {
-    let entry = entry_at(n, false, bytes, 57)?;
+    kept.entry = entry_at(n, false, bytes, 57)?;
+    kept.early = false;
     let size = u16_at(bytes, 79)?;
     where_allowed(size <= 128, (), 79)?;
     let payload = text_at(size.into(), bytes, 81)?;
-    Ok(Kept {
-        entry,
-        early: false,
-        payload: bytes_of(payload),
-    })
+    fill_bytes(payload, &mut kept.payload);
+    Ok(())
 }
 
 #[tactic(auto, unfolding(crate::specs::Reading::why_at, wire_head::specs::Reading::checked_at))]
@@ -60,15 +59,6 @@ fn why_at(bytes: &[u8], place: usize) -> Result<Why, WireFault>
     }
 }
 
-#[tactic(auto, unfolding(crate::specs::Reading::election_at))]
-fn election_at(bytes: &[u8]) -> Result<(u64, Why), WireFault>
-    ensures { result ≡ election_at bytes.now }
-{
-    let number = positive_at(bytes, 57)?;
-    let why = why_at(bytes, 65)?;
-    Ok((number, why))
-}
-
 #[tactic(auto, unfolding(crate::specs::Reading::want_at, crate::specs::Reading::wanted_at))]
 fn want_at(n: u8, bytes: &[u8]) -> Result<Want, WireFault>
     ensures { result ≡ want_at n bytes.now }
@@ -83,27 +73,41 @@ fn want_at(n: u8, bytes: &[u8]) -> Result<Want, WireFault>
 
 #[tactic(auto, unfolding(crate::specs::Reading::piece_at, crate::specs::Lists::counted_at, wire_head::specs::Reading::checked_at))]
 #[inline(never)]
-fn state_in(head: &Head, bytes: &[u8]) -> Result<Datagram, WireFault>
-    ensures { result ≡ whole head.now bytes.now (in_body state_of (λ p. 79 + length p.bytes) (piece_at bytes.now)) }
+fn state_in(head: &Head, bytes: &[u8], datagram: &mut Datagram) -> Result<(), WireFault>
+    ensures { Leaves result datagram.new (whole head.now bytes.now (in_body state_of (λ p. 79 + length p.bytes) (piece_at bytes.now))) }
 {
-    let group = positive_at(bytes, 57)?;
-    let position = count_at(bytes, 65)?;
-    let total = u16_at(bytes, 73)?;
-    where_allowed(1 <= total && total <= 4096, (), 73)?;
-    let offset = u16_at(bytes, 75)?;
-    where_allowed(offset < total && offset % 1024 == 0, (), 75)?;
-    let size = u16_at(bytes, 77)?;
-    where_allowed(size == (total - offset).min(1024), (), 77)?;
-    let piece = text_at(size.into(), bytes, 79)?;
-    ends_at(bytes, 79 + piece.len())?;
-    let body = Body::State {
-        group,
-        position,
-        total,
-        offset,
-        bytes: bytes_of(piece),
-    };
-    Ok(Datagram { head: *head, body })
+    datagram.head = *head;
+    if !matches!(datagram.body, Body::State { .. }) {
+        datagram.body = Body::State {
+            group: 0,
+            position: 0,
+            total: 0,
+            offset: 0,
+            bytes: ArrayVec::new(),
+        };
+    }
+    match &mut datagram.body {
+        Body::State {
+            group,
+            position,
+            total,
+            offset,
+            bytes: piece,
+        } => {
+            *group = positive_at(bytes, 57)?;
+            *position = count_at(bytes, 65)?;
+            *total = u16_at(bytes, 73)?;
+            where_allowed(1 <= *total && *total <= 4096, (), 73)?;
+            *offset = u16_at(bytes, 75)?;
+            where_allowed(*offset < *total && *offset % 1024 == 0, (), 75)?;
+            let size = u16_at(bytes, 77)?;
+            where_allowed(size == (*total - *offset).min(1024), (), 77)?;
+            let text = text_at(size.into(), bytes, 79)?;
+            fill_bytes(text, piece);
+            ends_at(bytes, 79 + text.len())
+        }
+        _ => Err(WireFault::Kind),
+    }
 }
 
 #[tactic(auto, unfolding(crate::specs::Reading::ready_at))]
@@ -140,86 +144,127 @@ pub fn ends_at(bytes: &[u8], end: usize) -> Result<(), WireFault>
     Ok(())
 }
 
-/// The datagram with this head and an update.
+/// Makes a datagram the one with this head and an update.
 ///
-/// Like the readers of the other kinds it isn't inlined, since a function pays at entry for the room of all that it may
-/// build.
+/// Like the readers of the other kinds it fills the datagram where it stands, and makes the body a blank one of the kind
+/// only where it is of another, since moving the room of the largest body takes longer than reading a short one. It isn't
+/// inlined, since a function pays at entry for the room of all that it may build.
 #[inline(never)]
-fn update_in(n: u8, head: &Head, bytes: &[u8]) -> Result<Datagram, WireFault>
-    ensures { result ≡ whole head.now bytes.now (in_body bodies.Update (λ k. 81 + length k.payload.items) (update_at n bytes.now)) }
+fn update_in(n: u8, head: &Head, bytes: &[u8], datagram: &mut Datagram) -> Result<(), WireFault>
+    ensures { Leaves result datagram.new (whole head.now bytes.now (in_body bodies.Update (λ k. 81 + length k.payload.items) (update_at n bytes.now))) }
 {
-    let kept = update_at(n, bytes)?;
-    ends_at(bytes, 81 + kept.payload.len())?;
-    Ok(Datagram {
-        head: *head,
-        body: Body::Update(kept),
-    })
+    datagram.head = *head;
+    if !matches!(datagram.body, Body::Update(_)) {
+        datagram.body = Body::Update(Kept {
+            entry: Entry::default(),
+            early: false,
+            payload: ArrayVec::new(),
+        });
+    }
+    match &mut datagram.body {
+        Body::Update(kept) => {
+            fill_update(n, bytes, kept)?;
+            ends_at(bytes, 81 + kept.payload.len())
+        }
+        _ => Err(WireFault::Kind),
+    }
 }
 
 #[inline(never)]
-fn decision_in(n: u8, head: &Head, bytes: &[u8]) -> Result<Datagram, WireFault>
+fn decision_in(n: u8, head: &Head, bytes: &[u8], datagram: &mut Datagram) -> Result<(), WireFault>
     requires { n ≤ 15 }
-    ensures { result ≡ whole head.now bytes.now (in_body bodies.Decision (λ d. 57 + decision_size d) (decision_at n None None bytes.now 57)) }
+    ensures { Leaves result datagram.new (whole head.now bytes.now (in_body bodies.Decision (λ d. 57 + decision_size d) (decision_at n None None bytes.now 57))) }
 {
-    let decision = decision_at(n, None, None, bytes, 57)?;
-    ends_at(bytes, 57 + decision_size(&decision))?;
-    Ok(Datagram {
-        head: *head,
-        body: Body::Decision(decision),
-    })
+    datagram.head = *head;
+    if !matches!(datagram.body, Body::Decision(_)) {
+        datagram.body = Body::Decision(Decision::default());
+    }
+    match &mut datagram.body {
+        Body::Decision(decision) => {
+            fill_decision(n, None, None, bytes, 57, decision)?;
+            ends_at(bytes, 57 + decision_size(decision))
+        }
+        _ => Err(WireFault::Kind),
+    }
+}
+
+#[tactic(auto, unfolding(crate::specs::Reading::election_at))]
+#[inline(never)]
+fn election_in(head: &Head, bytes: &[u8], datagram: &mut Datagram) -> Result<(), WireFault>
+    ensures { Leaves result datagram.new (whole head.now bytes.now (in_body election_of (λ e. 74) (election_at bytes.now))) }
+{
+    datagram.head = *head;
+    if !matches!(datagram.body, Body::Election { .. }) {
+        datagram.body = Body::Election {
+            number: 0,
+            why: Why::Stuck,
+        };
+    }
+    match &mut datagram.body {
+        Body::Election { number, why } => {
+            *number = positive_at(bytes, 57)?;
+            *why = why_at(bytes, 65)?;
+            ends_at(bytes, 74)
+        }
+        _ => Err(WireFault::Kind),
+    }
 }
 
 #[inline(never)]
-fn election_in(head: &Head, bytes: &[u8]) -> Result<Datagram, WireFault>
-    ensures { result ≡ whole head.now bytes.now (in_body election_of (λ e. 74) (election_at bytes.now)) }
+fn ask_in(n: u8, head: &Head, bytes: &[u8], datagram: &mut Datagram) -> Result<(), WireFault>
+    ensures { Leaves result datagram.new (whole head.now bytes.now (in_body bodies.Ask want_end (want_at n bytes.now))) }
 {
-    let (number, why) = election_at(bytes)?;
-    ends_at(bytes, 74)?;
-    Ok(Datagram {
-        head: *head,
-        body: Body::Election { number, why },
-    })
+    datagram.head = *head;
+    if !matches!(datagram.body, Body::Ask(_)) {
+        datagram.body = Body::Ask(Want::Table(0));
+    }
+    match &mut datagram.body {
+        Body::Ask(want) => {
+            *want = want_at(n, bytes)?;
+            ends_at(bytes, want_end(want))
+        }
+        _ => Err(WireFault::Kind),
+    }
 }
 
 #[inline(never)]
-fn ask_in(n: u8, head: &Head, bytes: &[u8]) -> Result<Datagram, WireFault>
-    ensures { result ≡ whole head.now bytes.now (in_body bodies.Ask want_end (want_at n bytes.now)) }
+fn sync_in(head: &Head, bytes: &[u8], datagram: &mut Datagram) -> Result<(), WireFault>
+    ensures { Leaves result datagram.new (whole head.now bytes.now (in_body bodies.Sync (λ r. 82) (sync_at bytes.now))) }
 {
-    let want = want_at(n, bytes)?;
-    ends_at(bytes, want_end(&want))?;
-    Ok(Datagram {
-        head: *head,
-        body: Body::Ask(want),
-    })
+    datagram.head = *head;
+    if !matches!(datagram.body, Body::Sync { .. }) {
+        datagram.body = Body::Sync { ready: None };
+    }
+    match &mut datagram.body {
+        Body::Sync { ready } => {
+            *ready = sync_at(bytes)?;
+            ends_at(bytes, 82)
+        }
+        _ => Err(WireFault::Kind),
+    }
 }
 
-#[inline(never)]
-fn sync_in(head: &Head, bytes: &[u8]) -> Result<Datagram, WireFault>
-    ensures { result ≡ whole head.now bytes.now (in_body bodies.Sync (λ r. 82) (sync_at bytes.now)) }
-{
-    let ready = sync_at(bytes)?;
-    ends_at(bytes, 82)?;
-    Ok(Datagram {
-        head: *head,
-        body: Body::Sync { ready },
-    })
-}
-
-/// The datagram with this head, and a body of this kind that ends with the bytes.
+/// Makes a datagram the one with this head, and a body of this kind that ends with the bytes.
 #[tactic(auto, unfolding(crate::specs::Reading::body_at))]
-fn body_in(n: u8, head: &Head, kind: u8, bytes: &[u8]) -> Result<Datagram, WireFault>
+fn body_in(
+    n: u8,
+    head: &Head,
+    kind: u8,
+    bytes: &[u8],
+    datagram: &mut Datagram,
+) -> Result<(), WireFault>
     requires { n ≤ 15 }
-    ensures { result ≡ whole head.now bytes.now (body_at n head.now kind bytes.now) }
+    ensures { Leaves result datagram.new (whole head.now bytes.now (body_at n head.now kind bytes.now)) }
 {
     match kind {
-        1 => update_in(n, head, bytes),
-        2 => decision_in(n, head, bytes),
-        3 => no_decision_in(n, head, bytes),
-        4 => election_in(head, bytes),
-        5 => promise_in(n, head, bytes),
-        6 => ask_in(n, head, bytes),
-        7 => state_in(head, bytes),
-        8 => sync_in(head, bytes),
+        1 => update_in(n, head, bytes, datagram),
+        2 => decision_in(n, head, bytes, datagram),
+        3 => no_decision_in(n, head, bytes, datagram),
+        4 => election_in(head, bytes, datagram),
+        5 => promise_in(n, head, bytes, datagram),
+        6 => ask_in(n, head, bytes, datagram),
+        7 => state_in(head, bytes, datagram),
+        8 => sync_in(head, bytes, datagram),
         // The head has one of the eight.
         _ => Err(WireFault::Kind),
     }
@@ -235,23 +280,59 @@ fn want_end(want: &Want) -> usize
 }
 
 #[tactic(auto, unfolding(crate::specs::Reading::datagram_at))]
-fn all_at(team: &Team, bytes: &[u8]) -> Result<Datagram, WireFault>
+fn all_into(team: &Team, bytes: &[u8], datagram: &mut Datagram) -> Result<(), WireFault>
     requires { IsSound team.now }
-    ensures exact { result ≡ datagram_at team.now bytes.now }
+    ensures exact { Leaves result datagram.new (datagram_at team.now bytes.now) }
     ensures line { team.now.line < 2 ^ 32 }
     ensures size { team.now.n < 2 ^ 8 }
 {
     // The proofs take from this that the line is a number of four bytes.
     let _line = team.line;
     let (head, kind) = read_head(team, bytes)?;
-    body_in(team.n, &head, kind, bytes)
+    body_in(team.n, &head, kind, bytes, datagram)
 }
 
-/// The datagram that the bytes spell, all of the bytes.
+/// Makes a datagram the one that the bytes spell, all of the bytes. Its place is used again: nothing of what it held stays.
+/// After a fault it is any datagram.
 ///
 /// The fault is the first one from left to right. Short comes where the bytes end within a field, Version where the
 /// version isn't 1, Kind where the kind isn't 1 to 8, Line where the line isn't that of the team, `Field` with the place
 /// of the field's first byte for another value that isn't allowed, and Long where bytes follow the last field.
+pub fn read_into(team: &Team, bytes: &[u8], datagram: &mut Datagram) -> Result<(), WireFault>
+    requires { IsSound team.now }
+    // What is read is spelled so.
+    ensures found { OnOk result (DatagramFits team.now.n datagram.new × (bytes.now ≡ spelling team.now.line datagram.new)) }
+    // What is spelled so is read.
+    ensures only { (d : Datagram) → DatagramFits team.now.n d → bytes.now ≡ spelling team.now.line d → (result ≡ Ok tt) × (datagram.new ≡ d) }
+    // What ends within such a spelling is cut short.
+    ensures cut { (d : Datagram) (more : List ℕ) → DatagramFits team.now.n d → 0 < length more → spelling team.now.line d ≡ bytes.now ++ more → result ≡ Err Short }
+    // What goes on behind one is too long.
+    ensures longer { (d : Datagram) (more : List ℕ) → DatagramFits team.now.n d → 0 < length more → bytes.now ≡ spelling team.now.line d ++ more → result ≡ Err Long }
+    // Which fault it is.
+    ensures exact { Leaves result datagram.new (datagram_at team.now bytes.now) }
+{
+    all_into(team, bytes, datagram)
+}
+
+/// A datagram to read into: a sign of life of process 0.
+pub fn blank() -> Datagram
+    ensures { result ≡ blank }
+{
+    let head = Head {
+        from: 0,
+        to: 0,
+        incarnation: 0,
+        sent: 0,
+        interval: None,
+        echo: None,
+    };
+    let body = Body::Sync { ready: None };
+    Datagram { head, body }
+}
+
+/// The datagram that the bytes spell, all of the bytes.
+///
+/// The fault is the first one from left to right, as `read_into` says.
 pub fn read(team: &Team, bytes: &[u8]) -> Result<Datagram, WireFault>
     requires { IsSound team.now }
     // What is read is spelled so.
@@ -265,5 +346,7 @@ pub fn read(team: &Team, bytes: &[u8]) -> Result<Datagram, WireFault>
     // Which fault it is.
     ensures exact { result ≡ datagram_at team.now bytes.now }
 {
-    all_at(team, bytes)
+    let mut datagram = blank();
+    read_into(team, bytes, &mut datagram)?;
+    Ok(datagram)
 }

@@ -305,6 +305,35 @@ fn different_numbers(rt: HostRuntime) -> Result<(), Fail> {
     are_spelled(&rt, &values::SPELLED)
 }
 
+/// The datagram is read into a place that held another one.
+fn is_read_into(rt: &impl Abort, spelled: &Spelled, datagram: &mut Datagram) -> Result<(), Fail> {
+    let page = page_of(spelled);
+    let text = page
+        .bytes
+        .get(..spelled.length)
+        .ok_or("longer than a buffer")?;
+    read_into(&team_of(7), text, datagram)?;
+    assert!(rt;
+        *datagram == values::value_of(spelled.kind),
+        "{} is read otherwise into a place that was used",
+        spelled.what
+    );
+    Ok(())
+}
+
+/// All kinds are read into one place, each behind each.
+#[test]
+fn one_place(rt: HostRuntime) -> Result<(), Fail> {
+    let mut datagram = blank();
+    for first in &values::SPELLED {
+        for second in &values::SPELLED {
+            is_read_into(&rt, first, &mut datagram)?;
+            is_read_into(&rt, second, &mut datagram)?;
+        }
+    }
+    Ok(())
+}
+
 #[test]
 fn wrong_values(rt: HostRuntime) -> Result<(), Fail> {
     are_refused(&rt, &fixed::WRONG)?;

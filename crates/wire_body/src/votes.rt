@@ -7,15 +7,15 @@ ghost use Rattle.tw_types.specs.declared.message.Report.{Report};
 ghost use Rattle.tw_types.specs.declared.datagram.Body.TheVariants as bodies;
 ghost use Rattle.tw_types.specs.Bytes.{guarded, eight};
 ghost use Rattle.tw_types.specs.Spelling.{kind_number, report_bytes, body_bytes};
-ghost use Rattle.wire_head.specs.Reading.{Gives, count_at, guarded_at};
+ghost use Rattle.wire_head.specs.Reading.{count_at, guarded_at};
 ghost use Rattle.wire_head.specs.Writing.{Writes};
-ghost use Rattle.wire_body.specs.Lists.{optional_at};
+ghost use Rattle.wire_body.specs.Lists.{optional_at, Leaves};
 ghost use Rattle.wire_body.specs.Decisions.{decision_at, decision_size};
 ghost use Rattle.wire_body.specs.Votes.{is_reporter, kind_from, is_reported_group, last_kind, report_at, sender, is_with_decision, promise_at, promise_of, optional_size, later, latest, reports_at, no_decision_at, no_decision_of};
 ghost use Rattle.wire_body.specs.Reading.{in_body, whole};
 
 use crate::decisions::{
-    decision_at, decision_size, is_told, put_decision, put_decision_if, told_count_at,
+    decision_size, fill_decision, is_told, put_decision, put_decision_if, told_count_at,
 };
 use crate::items::{Item, fill_items, presence, put_list};
 use crate::reading::ends_at;
@@ -199,27 +199,41 @@ fn is_with_decision(report: &Report) -> bool
     report.kind == Kind::Informed && 1 <= report.group
 }
 
-/// The decision of a report, where it is there.
+/// Makes a decision that may be there the one of a report, or none.
 #[tactic(auto, unfolding(wire_head::specs::Reading::guarded_at, wire_head::specs::Reading::zeros_at))]
 fn decision_if(
     present: bool,
     n: u8,
     report: &Report,
     bytes: &[u8],
-) -> Result<Option<Decision>, WireFault>
+    decision: &mut Option<Decision>,
+) -> Result<(), WireFault>
     requires { n ≤ 15 }
-    ensures { result ≡ guarded_at present 0 (decision_at n (Some report.now.group) (Some report.now.turn)) bytes.now 117 }
+    ensures { Leaves result decision.new (guarded_at present 0 (decision_at n (Some report.now.group) (Some report.now.turn)) bytes.now 117) }
 {
-    if present {
-        let decision = decision_at(n, Some(report.group), Some(report.turn), bytes, 117)?;
-        Ok(Some(decision))
-    } else {
-        Ok(None)
+    if !present {
+        *decision = None;
+        return Ok(());
+    }
+    if decision.is_none() {
+        *decision = Some(Decision::default());
+    }
+    match decision {
+        Some(decision) => fill_decision(
+            n,
+            Some(report.group),
+            Some(report.turn),
+            bytes,
+            117,
+            decision,
+        ),
+        None => Ok(()),
     }
 }
 
 fn optional_size(decision: &Option<Decision>) -> usize
-    ensures { result ≡ optional_size decision.now }
+    ensures exact { result ≡ optional_size decision.now }
+    ensures most { result ≤ 1210 }
 {
     match decision {
         None => 0,
@@ -229,27 +243,44 @@ fn optional_size(decision: &Option<Decision>) -> usize
 
 #[tactic(auto, unfolding(crate::specs::Votes::promise_at, wire_head::specs::Reading::checked_at))]
 #[inline(never)]
-pub fn promise_in(n: u8, head: &Head, bytes: &[u8]) -> Result<Datagram, WireFault>
+pub fn promise_in(
+    n: u8,
+    head: &Head,
+    bytes: &[u8],
+    datagram: &mut Datagram,
+) -> Result<(), WireFault>
     requires { n ≤ 15 }
-    ensures { result ≡ whole head.now bytes.now (in_body promise_of (λ p. 117 + optional_size p.decision) (promise_at n head.now bytes.now)) }
+    ensures { Leaves result datagram.new (whole head.now bytes.now (in_body promise_of (λ p. 117 + optional_size p.decision) (promise_at n head.now bytes.now))) }
 {
-    let number = positive_at(bytes, 57)?;
-    let sender = Member {
-        who: head.from,
-        incarnation: head.incarnation,
-    };
-    let report = report_at(&Vote { n, number }, Some(sender), &[], bytes, 65)?;
-    let present = byte_at(bytes, 116)?;
-    let expected = is_with_decision(&report);
-    where_allowed(present == u8::from(expected), (), 116)?;
-    let decision = decision_if(present == 1, n, &report, bytes)?;
-    ends_at(bytes, 117 + optional_size(&decision))?;
-    let body = Body::Promise {
-        number,
-        report,
-        decision,
-    };
-    Ok(Datagram { head: *head, body })
+    datagram.head = *head;
+    if !matches!(datagram.body, Body::Promise { .. }) {
+        datagram.body = Body::Promise {
+            number: 0,
+            report: Report::default(),
+            decision: None,
+        };
+    }
+    match &mut datagram.body {
+        Body::Promise {
+            number,
+            report,
+            decision,
+        } => {
+            *number = positive_at(bytes, 57)?;
+            let sender = Member {
+                who: head.from,
+                incarnation: head.incarnation,
+            };
+            let vote = Vote { n, number: *number };
+            *report = report_at(&vote, Some(sender), &[], bytes, 65)?;
+            let present = byte_at(bytes, 116)?;
+            let expected = is_with_decision(report);
+            where_allowed(present == u8::from(expected), (), 116)?;
+            decision_if(present == 1, n, report, bytes, decision)?;
+            ends_at(bytes, 117 + optional_size(decision))
+        }
+        _ => Err(WireFault::Kind),
+    }
 }
 
 /// The later of a group and turn and those of a report.
@@ -273,42 +304,64 @@ fn latest(reports: &[Report]) -> (u64, u64)
 
 /// The reports behind their number, which is from 1 to the size of the team.
 #[tactic(auto, unfolding(crate::specs::Votes::reports_at, crate::specs::Lists::counted_at, wire_head::specs::Reading::checked_at))]
-fn reports_at(vote: &Vote, bytes: &[u8], place: usize) -> Result<ArrayVec<Report, 15>, WireFault>
+fn fill_reports(
+    vote: &Vote,
+    bytes: &[u8],
+    place: usize,
+    reports: &mut ArrayVec<Report, 15>,
+) -> Result<(), WireFault>
     requires size { vote.now.n ≤ 15 }
     requires place { place < 2 ^ 13 }
-    ensures { Gives (λ reports. reports.items) result (reports_at vote.now.n vote.now.number bytes.now place) }
+    ensures { Leaves result reports.new.items (reports_at vote.now.n vote.now.number bytes.now place) }
 {
     let count = byte_at(bytes, place)?;
     where_allowed(1 <= count && count <= vote.n, (), place)?;
-    let mut reports = ArrayVec::new();
-    fill_items(vote, count, bytes, place + 1, &mut reports)?;
-    Ok(reports)
+    fill_items(vote, count, bytes, place + 1, reports)
 }
 
 #[tactic(auto, unfolding(crate::specs::Votes::no_decision_at))]
 #[inline(never)]
-pub fn no_decision_in(n: u8, head: &Head, bytes: &[u8]) -> Result<Datagram, WireFault>
+pub fn no_decision_in(
+    n: u8,
+    head: &Head,
+    bytes: &[u8],
+    datagram: &mut Datagram,
+) -> Result<(), WireFault>
     requires { n ≤ 15 }
-    ensures { result ≡ whole head.now bytes.now (in_body no_decision_of (λ g. 83 + 51 * length g.reports + decision_size g.best) (no_decision_at n bytes.now)) }
+    ensures { Leaves result datagram.new (whole head.now bytes.now (in_body no_decision_of (λ g. 83 + 51 * length g.reports + decision_size g.best) (no_decision_at n bytes.now))) }
 {
-    let number = positive_at(bytes, 57)?;
-    let group = positive_at(bytes, 65)?;
-    let turn = count_at(bytes, 73)?;
-    let skip = byte_below(n, bytes, 81)?;
-    let reports = reports_at(&Vote { n, number }, bytes, 82)?;
-    let (best_group, best_turn) = latest(reports.as_slice());
-    let behind = 83 + 51 * reports.len();
-    let best = decision_at(n, Some(best_group), Some(best_turn), bytes, behind)?;
-    ends_at(bytes, behind + decision_size(&best))?;
-    let body = Body::NoDecision {
-        number,
-        group,
-        turn,
-        skip,
-        reports,
-        best,
-    };
-    Ok(Datagram { head: *head, body })
+    datagram.head = *head;
+    if !matches!(datagram.body, Body::NoDecision { .. }) {
+        datagram.body = Body::NoDecision {
+            number: 0,
+            group: 0,
+            turn: 0,
+            skip: 0,
+            reports: ArrayVec::new(),
+            best: Decision::default(),
+        };
+    }
+    match &mut datagram.body {
+        Body::NoDecision {
+            number,
+            group,
+            turn,
+            skip,
+            reports,
+            best,
+        } => {
+            *number = positive_at(bytes, 57)?;
+            *group = positive_at(bytes, 65)?;
+            *turn = count_at(bytes, 73)?;
+            *skip = byte_below(n, bytes, 81)?;
+            fill_reports(&Vote { n, number: *number }, bytes, 82, reports)?;
+            let (best_group, best_turn) = latest(reports.as_slice());
+            let behind = 83 + 51 * reports.len();
+            fill_decision(n, Some(best_group), Some(best_turn), bytes, behind, best)?;
+            ends_at(bytes, behind + decision_size(best))
+        }
+        _ => Err(WireFault::Kind),
+    }
 }
 
 pub fn put_promise(

@@ -1,13 +1,14 @@
 //! Datagrams that are made at random go through the reader and the writer and back.
 //!
-//! `rounds N` does so N times and prints what came of it: a fixed line for each N. `rates N` reads and writes the longest
-//! decision and a sign of life N times each, and prints datagrams a second.
+//! `rounds N` does so N times and prints what came of it: a fixed line for each N. `rates N` reads and writes a short and a
+//! longest datagram of each kind N times each, and prints datagrams a second.
 #![tactic(auto)]
 
 mod draw;
 mod page;
 mod rates;
 mod rounds;
+mod samples;
 mod team;
 mod texts;
 

@@ -4,78 +4,41 @@ ghost use Rattle.tw_types.specs.Team.{IsSound};
 ghost use Rattle.tw_types.specs.Ranges.{DatagramFits};
 
 use crate::page::{Page, ROOM};
+use crate::samples::Sample;
 use crate::team::team_of;
 use std::io;
 use std::time::{Duration, Instant};
 use tw_types::{Datagram, Team};
-use wire_body::{read, write};
+use wire_body::{blank, read, read_into, write};
 
-/// The head of a datagram of process 0 with an interval.
-fn head(kind: u64) -> Page {
-    let mut page = Page::new();
-    page.put(1, 1);
-    page.put(1, kind);
-    page.put(4, 7);
-    page.put(2, 1);
-    page.put(8, 5);
-    page.put(8, 0);
-    page.put(1, 1);
-    page.put(8, 900);
-    page.put(8, 1_100);
-    page.put(8, 0);
-    page.put(8, 0);
-    page
-}
-
-/// A decision of fifteen seats and 32 entries.
-fn longest_decision() -> Page {
-    let mut page = head(2);
-    for number in [5, 7, 1_000, 2_000, 10, 950] {
-        page.put(8, number);
-    }
-    page.put(1, 2);
-    page.put(4, 3);
-    page.put(1, 15);
-    for who in 0..15 {
-        page.put(1, who);
-        page.put(8, 5);
-        page.put(4, 9);
-        page.put(1, 1);
-        page.put(8, 12);
-        page.put(8, 1_000);
-    }
-    page.put(1, 3);
-    page.put(1, 32);
-    for seq in 0..32 {
-        page.put(1, seq % 15);
-        page.put(8, 5);
-        page.put(4, 1 + seq);
-        page.put(1, 8);
-        page.put(8, 900 + seq);
-    }
-    page
-}
-
-fn sign_of_life() -> Page {
-    let mut page = head(8);
-    page.put(1, 1);
-    page.put(8, 5);
-    page.put(8, 7);
-    page.put(8, 12);
-    page
-}
-
-/// Reads the text so many times, each time with another last byte of the clock's reading.
+/// Reads the text so many times into one place, each time with another last byte of the clock's reading.
 fn read_all(team: &Team, page: &mut Page, rounds: u32) -> u64
     requires { IsSound team.now }
 {
+    let mut inbox = blank();
     let mut sum = 0u64;
     for i in 0..rounds {
         if let Some(byte) = page.bytes.get_mut(23) {
             *byte = (i % 256) as u8;
         }
-        if let Ok(datagram) = read(team, page.text(page.end)) {
-            sum = sum.wrapping_add(datagram.head.sent);
+        if read_into(team, page.text(page.end), &mut inbox).is_ok() {
+            sum = sum.wrapping_add(inbox.head.sent);
+        }
+    }
+    sum
+}
+
+/// Reads the two texts in turn into one place, so many times in all.
+fn read_in_turn(team: &Team, pair: (&[u8], &[u8]), rounds: u32) -> u64
+    requires { IsSound team.now }
+{
+    let (first, second) = pair;
+    let mut inbox = blank();
+    let mut sum = 0u64;
+    for i in 0..rounds {
+        let text = if i % 2 == 0 { first } else { second };
+        if read_into(team, text, &mut inbox).is_ok() {
+            sum = sum.wrapping_add(inbox.head.incarnation);
         }
     }
     sum
@@ -105,13 +68,13 @@ fn rate(rounds: u32, time: Duration) -> u128 {
     u128::from(rounds) * 1_000_000 / micros
 }
 
-fn print_one(rt: &HostRuntime, what: &str, mut page: Page, rounds: u32) -> io::Result<()> {
-    let team = team_of(15);
+fn print_one(rt: &HostRuntime, sample: Sample, rounds: u32) -> io::Result<()> {
+    let team = team_of(if sample.is_long { 15 } else { 3 });
+    let mut page = sample.page();
     let start = Instant::now(rt)?;
     let read_sum = read_all(&team, &mut page, rounds);
     let read_time = start.elapsed(rt)?;
     let first = read(&team, page.text(page.end));
-    page.put(0, 0);
     if let Some(byte) = page.bytes.get_mut(23) {
         *byte ^= 1;
     }
@@ -121,7 +84,10 @@ fn print_one(rt: &HostRuntime, what: &str, mut page: Page, rounds: u32) -> io::R
         let write_sum = write_all(&team, (&first, &second), rounds);
         let write_time = start.elapsed(rt)?;
         println!(rt;
-            "{what} read {} written {} sum {}",
+            "{}-{} {} read {} written {} sum {}",
+            sample.name(),
+            sample.size_name(),
+            page.end,
             rate(rounds, read_time),
             rate(rounds, write_time),
             read_sum.wrapping_add(write_sum)
@@ -130,8 +96,31 @@ fn print_one(rt: &HostRuntime, what: &str, mut page: Page, rounds: u32) -> io::R
     Ok(())
 }
 
-/// Prints the rates of the longest decision and of a sign of life.
+/// A decision and a sign of life, in turn.
+fn print_in_turn(rt: &HostRuntime, is_long: bool, rounds: u32) -> io::Result<()> {
+    let team = team_of(if is_long { 15 } else { 3 });
+    let decision = Sample { kind: 2, is_long };
+    let first = decision.page();
+    let second = Sample { kind: 8, is_long }.page();
+    let pair = (first.text(first.end), second.text(second.end));
+    let start = Instant::now(rt)?;
+    let sum = read_in_turn(&team, pair, rounds);
+    let time = start.elapsed(rt)?;
+    println!(rt;
+        "in-turn-{} {} read {} written 0 sum {sum}",
+        decision.size_name(),
+        first.end,
+        rate(rounds, time)
+    )
+}
+
+/// Prints the rates of a short and a longest datagram of each kind, and of two kinds in turn.
 pub fn print(rt: &HostRuntime, rounds: u32) -> io::Result<()> {
-    print_one(rt, "decision", longest_decision(), rounds)?;
-    print_one(rt, "sync", sign_of_life(), rounds)
+    for kind in 1..=8 {
+        for is_long in [false, true] {
+            print_one(rt, Sample { kind, is_long }, rounds)?;
+        }
+    }
+    print_in_turn(rt, false, rounds)?;
+    print_in_turn(rt, true, rounds)
 }

@@ -4,5 +4,6 @@ pub mod Moments
 pub mod Sends
 pub mod StandsFor
 pub mod Events
+pub mod Inbox
 pub mod InRange
 pub mod Outcomes

@@ -1,13 +1,14 @@
 //! Which packets a process takes.
 
-ghost use Rattle.std.specs.Prelude.{◌≡◌, ◌<◌, IfOk};
+ghost use Rattle.std.specs.Prelude.{◌≡◌, ◌<◌, OnOk};
 ghost use Rattle.tw_machine.specs.Packet.{has_no_list, is_taken, is_stranger, admitted};
 ghost use Rattle.tw_types.specs.Ranges.{DatagramFits};
 ghost use Rattle.tw_types.specs.Team.{IsSound};
 ghost use Rattle.wire_body.specs.Reading.{datagram_at};
+ghost use Rattle.node_core.specs.Inbox.{taken_in};
 
 use tw_types::{Body, Datagram, Decision, Head, Reason, Team, WireFault};
-use wire_body::read;
+use wire_body::read_into;
 
 /// Whether a decision speaks of no update.
 fn has_no_list(decision: &Decision) -> bool
@@ -35,19 +36,19 @@ fn is_stranger(n: u8, me: u8, head: &Head) -> bool
     n <= head.from || head.from == me || head.to != me
 }
 
-/// The datagram that a packet's bytes spell, where the process `me` takes it, or why it doesn't.
-pub fn admitted(team: &Team, me: u8, bytes: &[u8]) -> Result<Datagram, Reason>
+/// Reads into the inbox the datagram that a packet's bytes spell, where the process `me` takes it, or answers why it doesn't.
+pub fn admitted(team: &Team, me: u8, bytes: &[u8], inbox: &mut Datagram) -> Result<(), Reason>
     requires { IsSound team.now }
-    ensures exact { result ≡ admitted team.now.n me (datagram_at team.now bytes.now) }
-    ensures fits { IfOk result (DatagramFits team.now.n) }
-    ensures from { IfOk result (λ d. d.head.from < team.now.n) }
+    ensures exact { taken_in result inbox.new ≡ admitted team.now.n me (datagram_at team.now bytes.now) }
+    ensures fits { OnOk result (DatagramFits team.now.n inbox.new) }
+    ensures from { OnOk result (inbox.new.head.from < team.now.n) }
 {
-    let datagram = read(team, bytes).map_err(Reason::Wire)?;
-    if !is_taken(&datagram.body) {
+    read_into(team, bytes, inbox).map_err(Reason::Wire)?;
+    if !is_taken(&inbox.body) {
         return Err(Reason::Wire(WireFault::Kind));
     }
-    if is_stranger(team.n, me, &datagram.head) {
+    if is_stranger(team.n, me, &inbox.head) {
         return Err(Reason::Stranger);
     }
-    Ok(datagram)
+    Ok(())
 }

@@ -9,7 +9,8 @@ use crate::state::State;
 use std::alloc::Global;
 use std::marker::Model;
 use tw_num::WantOfMemory;
-use tw_types::{Answer, Mode, Outputs, Reason, Team, View};
+use tw_types::{Answer, Datagram, Mode, Outputs, Reason, Team, View};
+use wire_body::blank;
 
 /// What happens to a process.
 #[derive(Clone, Copy, Debug)]
@@ -22,10 +23,13 @@ pub enum Event<'a> {
     Reference { lo: u64, hi: u64 },
 }
 
-/// A process of a team. It takes no memory once it is made. Contracts see it as what it keeps, which is always in range.
+/// A process of a team. It takes no memory once it is made. Contracts see it as what it keeps, which is always in range, and
+/// nothing of its inbox.
 #[derive(Debug, Drop)]
 pub struct Core {
     state: State,
+    /// Where a packet is read. What an earlier one left there says nothing.
+    inbox: Datagram,
 }
 
 impl Model for Core {
@@ -54,13 +58,13 @@ impl Core {
         requires sound { IsSound team }
         requires who { who < team.n }
         requires reading { h < 2 ^ 60 }
-        requires mode { mode ≡ Mode.First }
         ensures stands { IfOk result (λ core. StandsFor core (started who mode h)) }
         ensures team { IfOk result (λ core. core.team ≡ team) }
     {
         let _ = alloc;
         Ok(Core {
             state: State::new(team, who, mode, h),
+            inbox: blank(),
         })
     }
 
@@ -78,7 +82,7 @@ impl Core {
         ensures team { self.new.team ≡ self.old.team }
     {
         out.clear();
-        self.state.step(event, h, out)
+        self.state.step(&mut self.inbox, event, h, out)
     }
 
     /// What the process says of itself at the reading `h`, not below the last one.
@@ -104,8 +108,8 @@ impl State {
     ghost use Rattle.node_core.specs.Sends.{IsSendable};
     ghost use Rattle.node_core.specs.StandsFor.{StandsFor};
 
-    /// Takes an event at the reading `h`, and puts what it gives into the empty `out`.
-    fn step(&mut self, event: Event<'_>, h: u64, out: &mut Outputs) -> Answer
+    /// Takes an event at the reading `h`, and puts what it gives into the empty `out`. Its packet is read into the inbox.
+    fn step(&mut self, inbox: &mut Datagram, event: Event<'_>, h: u64, out: &mut Outputs) -> Answer
         requires fits { IsInRange self.old }
         requires reading { h < 2 ^ 60 }
         requires givable { IsGivable event }
@@ -120,9 +124,16 @@ impl State {
         ensures fits { IsInRange self.new }
         ensures team { self.new.team ≡ self.old.team }
     {
-        let packet = learn(&self.team, self.identity.who, &mut self.timing, event, h);
+        let packet = learn(
+            &self.team,
+            self.identity.who,
+            &mut self.timing,
+            inbox,
+            event,
+            h,
+        );
         let now = self.timing.moment(h);
-        let dropped = self.rule(&now, packet, out);
+        let dropped = self.rule(&now, packet, inbox, out);
         if event.has_duties() {
             self.duties(&now, out);
         }

@@ -11,6 +11,7 @@ impl State {
     ghost use Rattle.tw_machine.specs.Run.{Run};
     ghost use Rattle.tw_machine.specs.Rules.{kind_rule, rule};
     ghost use Rattle.node_core.specs.InRange.{IsInRange};
+    ghost use Rattle.node_core.specs.Inbox.{packet_in};
     ghost use Rattle.node_core.specs.Moments.{MomentFits};
     ghost use Rattle.node_core.specs.Sends.{GivesMore};
     ghost use Rattle.node_core.specs.StandsFor.{RunStandsFor};
@@ -63,30 +64,32 @@ impl State {
         }
     }
 
-    /// The rule of an event, which has a packet, or none, or was dropped before. Answers why the event is dropped, if it is.
+    /// The rule of an event, which has a packet, in the inbox, or none, or was dropped before. Answers why the event is
+    /// dropped, if it is.
     pub fn rule(
         &mut self,
         now: &Moment,
-        packet: Result<Option<Datagram>, Reason>,
+        packet: Result<bool, Reason>,
+        inbox: &Datagram,
         out: &mut Outputs,
     ) -> Option<Reason>
         requires fits { IsInRange self.old }
         requires now { MomentFits now.now }
-        requires packet { IfOk packet (λ packet. IfSome packet (DatagramFits self.old.team.n)) }
-        requires from { IfOk packet (λ packet. IfSome packet (λ d. d.head.from < self.old.team.n)) }
+        requires packet { IfOk (packet_in packet inbox.now) (λ packet. IfSome packet (DatagramFits self.old.team.n)) }
+        requires from { IfOk (packet_in packet inbox.now) (λ packet. IfSome packet (λ d. d.head.from < self.old.team.n)) }
         requires room { length out.old.sends + 1 ≤ 64 }
         ensures stands { (team : TeamSeen) (r : Run) → RunStandsFor team self.old out.old r →
-            RunStandsFor team self.new out.new (rule team now.now packet r).run }
+            RunStandsFor team self.new out.new (rule team now.now (packet_in packet inbox.now) r).run }
         ensures dropped { (team : TeamSeen) (r : Run) → RunStandsFor team self.old out.old r →
-            result ≡ (rule team now.now packet r).dropped }
+            result ≡ (rule team now.now (packet_in packet inbox.now) r).dropped }
         ensures gives { GivesMore self.old.team.n 1 out.old out.new }
         ensures fits { IsInRange self.new }
         ensures team { self.new.team ≡ self.old.team }
     {
         match packet {
             Err(reason) => Some(reason),
-            Ok(None) => None,
-            Ok(Some(datagram)) => self.kind_rule(now, &datagram.head, &datagram.body, out),
+            Ok(false) => None,
+            Ok(true) => self.kind_rule(now, &inbox.head, &inbox.body, out),
         }
     }
 }

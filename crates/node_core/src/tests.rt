@@ -215,6 +215,193 @@ fn a_contradiction(rt: HostRuntime) -> Result<(), Fail> {
     Ok(())
 }
 
+/// A field of a datagram, of so many bytes.
+#[derive(Clone, Copy, Debug)]
+enum Field {
+    One(u8),
+    Four(u32),
+    Eight(u64),
+}
+
+/// Writes fields behind the bytes.
+fn spell(bytes: &mut Vec<u8>, fields: &[Field]) -> Result<(), WantOfMemory> {
+    for field in fields {
+        match field {
+            Field::One(byte) => bytes.push(*byte)?,
+            Field::Four(number) => bytes.extend_from_slice(&number.to_be_bytes())?,
+            Field::Eight(number) => bytes.extend_from_slice(&number.to_be_bytes())?,
+        }
+    }
+    Ok(())
+}
+
+/// The bytes of a datagram of this kind from a process that started at 5 to process 1. It tells that team time is `told`, or
+/// nothing of it.
+fn packet(
+    alloc: Global,
+    kind: u8,
+    from: u8,
+    told: Option<u32>,
+    body: &[Field],
+) -> Result<Vec<u8>, WantOfMemory> {
+    let flags = u8::from(told.is_some());
+    let time = told.map_or(0, u64::from);
+    let mut bytes = Vec::new(alloc);
+    let head = [Field::One(1), Field::One(kind), Field::Four(7)];
+    spell(&mut bytes, &head)?;
+    spell(&mut bytes, &[Field::One(from), Field::One(1)])?;
+    spell(&mut bytes, &[Field::Eight(5), Field::Eight(10)])?;
+    spell(&mut bytes, &[Field::One(flags)])?;
+    spell(&mut bytes, &[Field::Eight(time); 2])?;
+    spell(&mut bytes, &[Field::Eight(0); 2])?;
+    spell(&mut bytes, body)?;
+    Ok(bytes)
+}
+
+/// The bytes of an election of a process that is stuck.
+fn election(
+    alloc: Global,
+    from: u8,
+    number: u64,
+    told: Option<u32>,
+) -> Result<Vec<u8>, WantOfMemory> {
+    let body = [Field::Eight(number), Field::One(0), Field::Eight(0)];
+    packet(alloc, 4, from, told, &body)
+}
+
+/// What process 1, which started so at 5, answers to a datagram at its reading `h`, at which it knows team time to lie from
+/// `h` to `h + width`.
+fn answer_to(
+    alloc: Global,
+    mode: Mode,
+    h: u32,
+    width: u32,
+    datagram: &[u8],
+) -> Result<Answer, WantOfMemory> {
+    let mut out = Outputs::new(alloc)?;
+    let mut one = Core::new(alloc, TEAM, 1, mode, 5)?;
+    let lo = u64::from(h);
+    let hi = lo + u64::from(width);
+    let _ = one.step(Event::Reference { lo, hi }, lo, &mut out);
+    Ok(one.step(Event::Packet(datagram), lo, &mut out))
+}
+
+/// The last reading of process 1 in quarantine, and the next one.
+const QUARANTINED: u32 = 1_104_007;
+
+const FREE: u32 = QUARANTINED + 1;
+
+/// The quarantine of a process that was started again lasts exactly so many ticks, and is told before the owner of a number
+/// and before its slot. One that was started first has none.
+#[test]
+fn quarantine(rt: HostRuntime) -> Result<(), Fail> {
+    let alloc = rt.alloc();
+    let table = [
+        (Mode::Again, 5, 0, 3, Some(Reason::Quarantine)),
+        (Mode::Again, QUARANTINED, 0, 12, Some(Reason::Quarantine)),
+        (Mode::Again, QUARANTINED, 2, 12, Some(Reason::Quarantine)),
+        (Mode::Again, QUARANTINED, 0, 9, Some(Reason::Quarantine)),
+        (Mode::Again, QUARANTINED, 0, 18, Some(Reason::Quarantine)),
+        (Mode::Again, FREE, 0, 12, Some(Reason::Unwilling)),
+        (Mode::Again, FREE, 2, 12, Some(Reason::OutOfWindow)),
+        (Mode::Again, FREE, 0, 9, Some(Reason::OutOfWindow)),
+        (Mode::Again, FREE, 0, 18, Some(Reason::OutOfWindow)),
+        (Mode::First, 5, 0, 3, None),
+        (Mode::First, QUARANTINED, 0, 12, None),
+        (Mode::First, QUARANTINED, 2, 12, Some(Reason::OutOfWindow)),
+    ];
+    for (mode, h, from, number, reason) in table {
+        let datagram = election(alloc, from, number, Some(h))?;
+        let answer = answer_to(alloc, mode, h, 0, &datagram)?;
+        assert_eq!(rt;
+            answer,
+            reason.map_or(Answer::Done, Answer::Dropped),
+            "{number} at {h}"
+        );
+    }
+    Ok(())
+}
+
+/// A datagram that can't be rated, that came late, or that finds no reading is refused for that, also in quarantine. Each
+/// case has what the datagram tells of team time, and how wide the process knows it.
+#[test]
+fn before_quarantine(rt: HostRuntime) -> Result<(), Fail> {
+    let alloc = rt.alloc();
+    let table = [
+        (None, 0, Reason::Unrated),
+        (Some(QUARANTINED - 10_000), 0, Reason::Late(10_001)),
+        (Some(QUARANTINED - 9_999), 0, Reason::Quarantine),
+        (Some(QUARANTINED), 1_999, Reason::Unsynced),
+        (Some(QUARANTINED), 1_998, Reason::Quarantine),
+    ];
+    for (told, width, reason) in table {
+        let datagram = election(alloc, 0, 12, told)?;
+        let answer = answer_to(alloc, Mode::Again, QUARANTINED, width, &datagram)?;
+        assert_eq!(rt; answer, Answer::Dropped(reason));
+    }
+    Ok(())
+}
+
+/// Group 12 of processes 0 and 1, which process 0 just made.
+const GROUP: [Field; 23] = [
+    Field::Eight(12),
+    Field::Eight(0),
+    Field::Eight(1_104_000),
+    Field::Eight(1_104_001),
+    Field::Eight(0),
+    Field::Eight(0),
+    Field::One(0),
+    Field::Four(0),
+    Field::One(2),
+    Field::One(0),
+    Field::Eight(5),
+    Field::Four(1),
+    Field::One(1),
+    Field::Eight(0),
+    Field::Eight(1_104_000),
+    Field::One(1),
+    Field::Eight(5),
+    Field::Four(1),
+    Field::One(0),
+    Field::Eight(0),
+    Field::Eight(0),
+    Field::One(0),
+    Field::One(0),
+];
+
+/// Process 0 promises group 12, and has no decision.
+const PROMISE: [Field; 11] = [
+    Field::Eight(12),
+    Field::One(0),
+    Field::Eight(5),
+    Field::One(0),
+    Field::Eight(0),
+    Field::Eight(0),
+    Field::Eight(0),
+    Field::One(0),
+    Field::Eight(0),
+    Field::Eight(1_104_000),
+    Field::One(0),
+];
+
+/// A process that was started again takes no decision, also of a group that names it, and has no ballot that a promise could
+/// join. Quarantine is nothing to either.
+#[test]
+fn started_again(rt: HostRuntime) -> Result<(), Fail> {
+    let alloc = rt.alloc();
+    for h in [QUARANTINED, FREE] {
+        let group = packet(alloc, 2, 0, Some(h), &GROUP)?;
+        let promise = packet(alloc, 5, 0, Some(h), &PROMISE)?;
+        let answer = answer_to(alloc, Mode::Again, h, 0, &group)?;
+        assert_eq!(rt; answer, Answer::Dropped(Reason::NotMember));
+        let answer = answer_to(alloc, Mode::Again, h, 0, &promise)?;
+        assert_eq!(rt; answer, Answer::Dropped(Reason::Old));
+        let answer = answer_to(alloc, Mode::First, h, 0, &group)?;
+        assert_eq!(rt; answer, Answer::Dropped(Reason::Promised(0)));
+    }
+    Ok(())
+}
+
 /// A core has room for all that a process keeps, far below the 200 KB that it may take.
 #[test]
 fn a_core_is_small(rt: HostRuntime) {

@@ -4,7 +4,9 @@ use Rattle.std.specs.Prelude.{codes}
 use Rattle.std.specs.Fmt.{digits}
 use Rattle.tw_types.specs.declared.step.Act.{Act}
 use Rattle.tw_types.specs.declared.step.Step.{Step}
-use Rattle.tw_types.specs.declared.step.Act.TheVariants.{First, Crash, Reference}
+use Rattle.tw_types.specs.declared.step.Act.TheVariants.{First, Crash, Send, Reference}
+use Rattle.tw_types.specs.declared.message.Order.TheVariants.{Total}
+use Rattle.tw_types.specs.declared.message.Atom.TheVariants.{Weak}
 use Rattle.replayer.specs.Replay.{IsTakenLine}
 
 abbrev step : ℕ → Act → Step
@@ -33,6 +35,16 @@ leading_zero : IsTakenLine 3 (codes "05 2 6 first") (step 2 First) → ⊥
 unfolding digits
 leading_zero line = let longer : 12 ≡ 11 = ap length line.spelled.text in omega (arith, longer)
 
+crash_short : length (codes "5 2 6 crash") ≡ 11
+crash_short = refl
+
+crash_taken : IsTakenLine 3 (codes "5 2 6 crash") (step 2 Crash)
+unfolding digits
+crash_taken = record {
+  spelled = record { text = refl; t = omega arith; who = omega arith; h = omega arith; act = tt; fits = omega (arith, crash_short) };
+  built = refl;
+}
+
 -- of an act that isn't taken yet
-not_taken_yet : IsTakenLine 3 (codes "5 2 6 crash") (step 2 Crash) → ⊥
-not_taken_yet line = let built : false ≡ true = line.built in cc
+not_taken_yet : (payload : _) → IsTakenLine 3 (codes "5 2 6 send total weak -") (step 2 (Send Total Weak payload)) → ⊥
+not_taken_yet payload line = let built : false ≡ true = line.built in cc

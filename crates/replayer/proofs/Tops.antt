@@ -10,10 +10,10 @@ use Rattle.replayer.specs.Replay.{lines_of, Begins, Verdict, Whole, NoTeam, Faul
 use Rattle.replayer.specs.Answers.{GaveUp, RowsAreWell, IsAnswered, IsReplayed}
 use Rattle.tw_machine.specs.World.{IsReplayable}
 use Rattle.tw_machine.specs.Rows.{rows_of}
-use Rattle.tw_machine.specs.SafeRows.{SafeDeliveries}
+use Rattle.tw_machine.specs.SafeRows.{SafeRows}
 use Rattle.tw_machine.specs.ClockLaw.{ReadsWell}
-use Rattle.tw_machine.proofs.ClockLaw.{reads_well}
-use Rattle.tw_machine.proofs.SafeRows.{safe_deliveries}
+use Rattle.safety_laws.proofs.ClockLaw.{reads_well}
+use Rattle.safety_laws.proofs.Safe.{safe_rows}
 use Rattle.replayer.proofs.Sound.{sound_of, spells_built}
 use Rattle.replayer.proofs.Verdicts.{nothing_written}
 
@@ -24,8 +24,8 @@ settled s t e not gave = not (subst (λ (x : Status). GaveUp x) e gave)
 replayable : (lines : List (List ℕ)) (team : Team) (past : List Step) (rest : List (List ℕ)) → Begins lines team past rest → IsReplayable team past
 replayable lines team past rest begins = (begins.admissible, spells_built team.n past rest begins.others begins.steps)
 
-begins_well : (lines : List (List ℕ)) (team : Team) (past : List Step) (rest : List (List ℕ)) → Begins lines team past rest → SafeDeliveries team (rows_of team past) × ReadsWell team past
-begins_well lines team past rest begins = (safe_deliveries team past, reads_well team past (sound_of team begins.sound) (replayable lines team past rest begins))
+begins_well : (lines : List (List ℕ)) (team : Team) (past : List Step) (rest : List (List ℕ)) → Begins lines team past rest → SafeRows team (rows_of team past) × ReadsWell team past
+begins_well lines team past rest begins = (safe_rows team past (sound_of team begins.sound) (replayable lines team past rest begins), reads_well team past (sound_of team begins.sound) (replayable lines team past rest begins))
 
 -- the rows before the line that ends a text are safe, and read near team time
 pub rows_well : (lines : List (List ℕ)) (v : Verdict) → IsVerdict lines v → RowsAreWell v
@@ -45,7 +45,7 @@ replayed all left before taken result a ok = by_verdict a.tells.0 a.tells.1 (sym
       schedule = begins;
       ended = a.ended ok;
       written = a.written ∙ ap (λ t. Some (before ++ t)) rows;
-      safe = safe_deliveries team past;
+      safe = safe_rows team past (sound_of team begins.sound) (replayable (lines_of all) team past [] begins);
       near = reads_well team past (sound_of team begins.sound) (replayable (lines_of all) team past [] begins);
     }
     by_verdict NoTeam is same rows = absurd (cc)

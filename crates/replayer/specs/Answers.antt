@@ -7,7 +7,7 @@ use Rattle.tw_types.specs.declared.step.Step.{Step}
 use Rattle.replayer.specs.Replay.{lines_of, Begins, Verdict, Whole, NoTeam, Faulty, BadLine, Endless, IsVerdict}
 use Rattle.tw_machine.specs.Rows.{rows_of}
 use Rattle.tw_machine.specs.RowText.{text_of}
-use Rattle.tw_machine.specs.SafeRows.{SafeDeliveries}
+use Rattle.tw_machine.specs.SafeRows.{SafeRows}
 use Rattle.tw_machine.specs.ClockLaw.{ReadsWell}
 use Rattle.replayer.specs.Cuts.{Tells}
 
@@ -28,11 +28,11 @@ TellsOfText _ = ⊥
 
 -- the rows of the steps before the line that ends a text are safe, and each reading in them is near the team time of its step
 abbrev pub RowsAreWell : Verdict → Type 0
-RowsAreWell (Whole team past) = SafeDeliveries team (rows_of team past) × ReadsWell team past
+RowsAreWell (Whole team past) = SafeRows team (rows_of team past) × ReadsWell team past
 RowsAreWell NoTeam = Unit {0}
 RowsAreWell (Faulty fault) = Unit {0}
-RowsAreWell (BadLine team past cause) = SafeDeliveries team (rows_of team past) × ReadsWell team past
-RowsAreWell (Endless team past) = SafeDeliveries team (rows_of team past) × ReadsWell team past
+RowsAreWell (BadLine team past cause) = SafeRows team (rows_of team past) × ReadsWell team past
+RowsAreWell (Endless team past) = SafeRows team (rows_of team past) × ReadsWell team past
 
 -- The status tells what the text is, and the rows of the steps before the line that ends it were written; at Ok nothing of the text is left.
 pub record IsAnswered (all : List ℕ) (left : Option (List ℕ)) (before : List ℕ) (taken : Option (List ℕ)) (result : Status) : Type 0 where
@@ -59,5 +59,5 @@ pub record IsReplayed (all : List ℕ) (left : Option (List ℕ)) (before : List
   pub schedule : Begins (lines_of all) team past []
   pub ended : left ≡ Some []
   pub written : taken ≡ Some (before ++ text_of (rows_of team past))
-  pub safe : SafeDeliveries team (rows_of team past)
+  pub safe : SafeRows team (rows_of team past)
   pub near : ReadsWell team past

@@ -44,10 +44,7 @@ enum Refusal {
 fn is_built(act: &Act) -> bool
     ensures { result ≡ is_built act.now }
 {
-    matches!(
-        act,
-        Act::First | Act::Tick | Act::Recv(_) | Act::Reference { .. } | Act::Look
-    )
+    !matches!(act, Act::Send { .. })
 }
 
 fn no_rows(alloc: Global, status: Status) -> Replay

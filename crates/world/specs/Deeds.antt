@@ -5,6 +5,7 @@ use Rattle.tw_types.specs.declared.team.Team.{Team}
 use Rattle.tw_types.specs.declared.answer.Answer.{Answer}
 use Rattle.tw_types.specs.declared.outputs.View.{View}
 use Rattle.tw_types.specs.declared.outputs.Outputs.{Outputs}
+use Rattle.tw_types.specs.declared.outputs.Mode.{Mode}
 use Rattle.tw_types.specs.declared.outputs.Mode.TheVariants as modes
 use Rattle.tw_types.specs.declared.row.RowAnswer.{RowAnswer}
 use Rattle.tw_types.specs.declared.step.Act.{Act}
@@ -29,12 +30,23 @@ abbrev pub NotBefore : ℕ → Option Process → Type 0
 NotBefore h None = Unit {0}
 NotBefore h (Some q) = IsNotBefore h q.timing.clock
 
+-- how an act starts a process, if it does
+abbrev pub mode_of : Act → Option Mode
+mode_of First = Some modes.First
+mode_of Again = Some modes.Again
+mode_of Crash = None
+mode_of Tick = None
+mode_of (Recv d) = None
+mode_of (Send order atom payload) = None
+mode_of (Reference lo hi) = None
+mode_of Look = None
+
 -- A core that is ready for an act at h of the process that was there before: one that starts was just made, any other one
--- runs and was given nothing later. An act that isn't built has none.
+-- runs, also one that crashes, and was given nothing later. An act that isn't built has none.
 abbrev pub IsReady : Team → ℕ → ℕ → Act → Option State → Option Process → Type 0
 IsReady team who h First c before = RunsAs team c (Some (started who modes.First h))
-IsReady team who h Again c before = ⊥
-IsReady team who h Crash c before = ⊥
+IsReady team who h Again c before = RunsAs team c (Some (started who modes.Again h))
+IsReady team who h Crash c before = RunsAs team c before × NotBefore h before × IsSome before
 IsReady team who h Tick c before = RunsAs team c before × NotBefore h before × IsSome before
 IsReady team who h (Recv d) c before = RunsAs team c before × NotBefore h before × IsSome before
 IsReady team who h (Send order atom payload) c before = ⊥

@@ -1,6 +1,6 @@
 //! What is kept of one process of a schedule.
 
-ghost use Rattle.std.specs.Prelude.{◌≡◌, ◌<◌, ◌^◌, ℕ, true, List, [], Some, Option, Ok};
+ghost use Rattle.std.specs.Prelude.{◌≡◌, ◌<◌, ◌^◌, ℕ, true, List, Some, Option, Ok};
 ghost use Rattle.std.specs.List.{AllByRecursion};
 ghost use Rattle.tw_num.specs.Clock.{IsNotBefore};
 ghost use Rattle.tw_types.specs.declared.team.Team.{Team as TeamSeen};
@@ -9,17 +9,18 @@ ghost use Rattle.tw_types.specs.Process.{Process};
 ghost use Rattle.tw_types.specs.Ranges.{DatagramFits};
 ghost use Rattle.tw_types.specs.Spelling.{spelling};
 ghost use Rattle.tw_types.specs.Team.{IsSound};
-ghost use Rattle.tw_machine.specs.Admissible.{is_start, holds_time};
+ghost use Rattle.tw_machine.specs.Admissible.{is_start, runs_after, holds_time};
 ghost use Rattle.tw_types.specs.Outputs.{nothing};
 ghost use Rattle.tw_machine.specs.Admissible.{may_receive};
 ghost use Rattle.tw_machine.specs.Dispatches.{Dispatch};
 ghost use Rattle.tw_machine.specs.Event.{Packet};
 ghost use Rattle.tw_machine.specs.Grammar.{IsAct};
+ghost use Rattle.tw_machine.specs.Rows.{gone};
 ghost use Rattle.tw_machine.specs.World.{row_answer, deed};
 ghost use Rattle.node_core.specs.Sends.{IsSendable};
 ghost use Rattle.node_core.specs.StandsFor.{StandsFor};
 ghost use Rattle.world.specs.Datagrams.{SentStandsFor};
-ghost use Rattle.world.specs.Deeds.{IsReady, HasTaken, IsDone, IsDeed};
+ghost use Rattle.world.specs.Deeds.{mode_of, IsReady, HasTaken, IsDone, IsDeed};
 
 use crate::bounds::Bounds;
 use crate::refused::Refused;
@@ -52,6 +53,24 @@ fn holds_time(step: &Step) -> bool
         Act::Reference { lo, hi } => lo <= step.t && step.t <= hi,
         _ => true,
     }
+}
+
+/// How the act starts a process, if it does.
+fn mode(act: &Act) -> Option<Mode>
+    ensures { result ≡ mode_of act.now }
+{
+    match act {
+        Act::First => Some(Mode::First),
+        Act::Again => Some(Mode::Again),
+        _ => None,
+    }
+}
+
+/// Whether a process that runs still does after the act.
+fn runs_after(act: &Act) -> bool
+    ensures { result ≡ runs_after act.now true }
+{
+    !matches!(act, Act::Crash)
 }
 
 fn row_answer(answer: Answer) -> RowAnswer
@@ -145,8 +164,8 @@ impl Node {
         ensures same { OnErr result (self.new ≡ self.old) }
     {
         let bounds = Bounds::of(team.ppm, step.t, step.h).widened(self.bounds);
-        if is_start(&step.act) {
-            let core = Core::new(alloc, *team, step.who, Mode::First, step.h)?;
+        if let Some(mode) = mode(&step.act) {
+            let core = Core::new(alloc, *team, step.who, mode, step.h)?;
             self.started = true;
             self.core = Some(core);
         }
@@ -155,7 +174,8 @@ impl Node {
     }
 
     /// What the act of a step makes of the process, which is ready for it. Answers how the step ended and what the process
-    /// then says of itself, and puts what it gives into `out`. A process that doesn't run does nothing.
+    /// then says of itself, and puts what it gives into `out`. Of a process that crashes nothing is left but what is kept of its
+    /// readings and starts. A process that doesn't run does nothing.
     pub fn act(&mut self, step: &Step, sent: &Sent, out: &mut Outputs) -> (RowAnswer, View)
         requires h { step.now.h < 2 ^ 60 }
         requires act { IsAct step.now.act }
@@ -168,28 +188,31 @@ impl Node {
         ensures bounds { self.new.bounds ≡ self.old.bounds }
         ensures started { self.new.started ≡ self.old.started }
     {
-        match &mut self.core {
-            Some(core) => act(core, step, sent, out),
-            None => idle(out),
+        let Some(core) = &mut self.core else {
+            return (silent(RowAnswer::Done, out), gone(0));
+        };
+        if runs_after(&step.act) {
+            return act(core, step, sent, out);
         }
+        let lost = core.look(step.h);
+        self.core = None;
+        (silent(RowAnswer::Crash, out), gone(lost.incarnation))
     }
 }
 
-/// Nothing happens to a process that doesn't run.
-fn idle(out: &mut Outputs) -> (RowAnswer, View)
-    ensures { out.new.sends ≡ [] }
+/// What is seen of a process that doesn't run: the incarnation that was lost, and no more.
+fn gone(incarnation: u64) -> View
+    ensures { result ≡ gone incarnation }
 {
-    out.clear();
-    let view = View {
-        incarnation: 0,
+    View {
+        incarnation,
         reading: None,
         up: false,
         group: 0,
         turn: 0,
         length: 0,
         passed: 0,
-    };
-    (RowAnswer::Done, view)
+    }
 }
 
 /// The process receives these bytes at its reading `h`.
@@ -204,13 +227,13 @@ fn receive(core: &mut Core, bytes: &[u8], h: u64, out: &mut Outputs) -> Answer
     core.step(Event::Packet(bytes), h, out)
 }
 
-/// What the act of a step makes of a running process, but for the look at it that ends each step.
+/// What the act of a step makes of a process that runs on, but for the look at it that ends each step.
 fn happen(core: &mut Core, step: &Step, sent: &Sent, out: &mut Outputs) -> RowAnswer
     requires h { step.now.h < 2 ^ 60 }
     requires act { IsAct step.now.act }
     ensures done { (team : TeamSeen) (before : Option Process) (datagrams : List Dispatch) → IsSound team → team.line < 2 ^ 32 →
         SentStandsFor team sent.now datagrams → may_receive datagrams step.now step.now.act ≡ true →
-        IsReady team step.now.who step.now.h step.now.act (Some core.old) before →
+        IsReady team step.now.who step.now.h step.now.act (Some core.old) before → runs_after step.now.act true ≡ true →
         IsDone team step.now.h core.new result out.new (deed team step.now.who step.now.h datagrams step.now.act before) }
     ensures fits { AllByRecursion (IsSendable core.old.team.n) out.new.sends }
     ensures team { core.new.team ≡ core.old.team }
@@ -238,13 +261,13 @@ fn silent(answer: RowAnswer, out: &mut Outputs) -> RowAnswer
     answer
 }
 
-/// What the act of a step makes of a running process.
+/// What the act of a step makes of a process that runs on.
 fn act(core: &mut Core, step: &Step, sent: &Sent, out: &mut Outputs) -> (RowAnswer, View)
     requires h { step.now.h < 2 ^ 60 }
     requires act { IsAct step.now.act }
     ensures deed { (team : TeamSeen) (before : Option Process) (datagrams : List Dispatch) → IsSound team → team.line < 2 ^ 32 →
         SentStandsFor team sent.now datagrams → may_receive datagrams step.now step.now.act ≡ true →
-        IsReady team step.now.who step.now.h step.now.act (Some core.old) before →
+        IsReady team step.now.who step.now.h step.now.act (Some core.old) before → runs_after step.now.act true ≡ true →
         IsDeed team step.now.h (Some core.new) result.0 result.1 out.new before (deed team step.now.who step.now.h datagrams step.now.act before) }
     ensures fits { AllByRecursion (IsSendable core.old.team.n) out.new.sends }
     ensures team { core.new.team ≡ core.old.team }

@@ -10,6 +10,7 @@ use Rattle.tw_machine.specs.Duties.{duties}
 use Rattle.tw_machine.specs.Step.{learnt_by, moment_of, read_by, ruled_by, answer_by, step}
 use Rattle.tw_machine.proofs.Steps.{learnt_not_before, step_answer}
 use Rattle.node_core.specs.Events.{event_seen}
+use Rattle.node_core.specs.Inbox.{packet_in}
 use Rattle.node_core.specs.StandsFor.{StandsFor, TimingStandsFor, RunStandsFor}
 use Rattle.node_core.proofs.Steps.{read_stands, step_stands}
 use Rattle.node_core.proofs.state.State.step.Goals as goal
@@ -18,9 +19,13 @@ use Rattle.node_core.proofs.state.State.step.Goals.{then-has_duties, else-has_du
 abbrev event : goal.After-answer → Event
 event c = event_seen c.args.self.now.team c.args.event
 
+-- what is left of the event, with the packet in the inbox
+abbrev packet : goal.After-answer → Result (Option Datagram) Reason
+packet c = packet_in c.learn-packet.result c.learn-packet.new.inbox
+
 -- what the points before the rule come to, for a process that the core stands for
 record Begins (c : goal.After-answer) (p : Process) : Type 0 where
-  packet : c.learn-packet.result ≡ (learnt_by c.args.self.now.team c.args.h (event c) p).packet
+  packet : packet c ≡ (learnt_by c.args.self.now.team c.args.h (event c) p).packet
   moment : c.moment-now.result ≡ moment_of c.args.self.now.team c.args.h (event c) p
   timing : TimingStandsFor c.args.self.now.team c.moment-now.new.self (read_by c.args.self.now.team c.args.h (event c) p).process.timing
 
@@ -49,8 +54,8 @@ ruled c p s known =
     let begun = read_stands team c.args.self.now _ c.args.h (event c) p _ s refl refl refl refl refl refl before.timing c.requires.empty in
     record {
       stands = subst (λ (k : Result (Option Datagram) Reason). RunStandsFor team c.rule-dropped.new.self c.rule-dropped.new.out (rule team (moment_of team c.args.h (event c) p) k read).run) before.packet
-          (subst (λ (m : Moment). RunStandsFor team c.rule-dropped.new.self c.rule-dropped.new.out (rule team m c.learn-packet.result read).run) before.moment (c.rule-dropped.ensures.stands team read begun));
-      dropped = c.rule-dropped.ensures.dropped team read begun ∙ ap (λ (m : Moment). (rule team m c.learn-packet.result read).dropped) before.moment
+          (subst (λ (m : Moment). RunStandsFor team c.rule-dropped.new.self c.rule-dropped.new.out (rule team m (packet c) read).run) before.moment (c.rule-dropped.ensures.stands team read begun));
+      dropped = c.rule-dropped.ensures.dropped team read begun ∙ ap (λ (m : Moment). (rule team m (packet c) read).dropped) before.moment
           ∙ ap (λ (k : Result (Option Datagram) Reason). (rule team (moment_of team c.args.h (event c) p) k read).dropped) before.packet;
     }
 

@@ -78,7 +78,7 @@ ack_fits d me t end r le = go (is_same_member r.member me)
     go true = le
     go false = tt
 
-all_map : {X Y : Type 0} (P : Y → Type 0) (f : X → Y) (xs : List X) → AllByRecursion (λ x. P (f x)) xs → AllByRecursion P (map f xs)
+pub all_map : {X Y : Type 0} (P : Y → Type 0) (f : X → Y) (xs : List X) → AllByRecursion (λ x. P (f x)) xs → AllByRecursion P (map f xs)
 all_map P f [] h = tt
 all_map P f (x ∷ xs) h = (h.0, all_map P f xs h.1)
 
@@ -101,10 +101,10 @@ fold_min : (lo hi x : ℕ) (xs : List ℕ) → lo ≤ x → x ≤ hi → AllByRe
 fold_min lo hi x [] a b h = (a, b)
 fold_min lo hi x (y ∷ ys) a b h = fold_min lo hi (min x y) ys (omega (arith, h.0)) (omega arith) h.1
 
-abbrev IsWithin : ℕ → ℕ → Report → Type 0
+abbrev pub IsWithin : ℕ → ℕ → Report → Type 0
 IsWithin lo hi r = (lo ≤ r.length) × (r.length ≤ hi)
 
-least_within : (lo hi : ℕ) (rs : List Report) → 1 ≤ length rs → AllByRecursion (IsWithin lo hi) rs
+pub least_within : (lo hi : ℕ) (rs : List Report) → 1 ≤ length rs → AllByRecursion (IsWithin lo hi) rs
     → (lo ≤ least (map (λ (r : Report). r.length) rs)) × (least (map (λ (r : Report). r.length) rs) ≤ hi)
 least_within lo hi [] some h = absurd (omega arith)
 least_within lo hi (r ∷ rs) some h =
@@ -116,7 +116,7 @@ first_two true true z h = (refl, refl)
 first_two true false z h = cc
 first_two false y z h = cc
 
-within : (o : Option Decision) (r : Report) → is_consistent o r ≡ true → IsWithin (or_none o).low (decision_length (or_none o)) r
+pub within : (o : Option Decision) (r : Report) → is_consistent o r ≡ true → IsWithin (or_none o).low (decision_length (or_none o)) r
 within o r h =
     let parts = first_two (nat_le (or_none o).low r.length) (nat_le r.length (decision_length (or_none o))) (goes_with r.kind r (or_none o)) h in
     let low = parts.0 in
@@ -125,7 +125,7 @@ within o r h =
 
 -- ---- the decision
 
-abbrev low_of : Team → Ballot → ℕ
+abbrev pub low_of : Team → Ballot → ℕ
 low_of team b = least (map (λ (r : Report). r.length) (seated team b))
 
 finished : (team : Team) (b : Ballot) (me : Member) (t : ℕ) → IsBallot team.n b → t < 2 ^ 60 → start_of team b < 2 ^ 61 → GoesOn team.n (or_none b.best)
@@ -160,7 +160,7 @@ finished team b me t ballot time start g above below fit many maker =
       window = all_drop (EntryFits team.n) (low - best.low) best.window.items g.window;
     }
 
-owner_low : (n : ℕ) (me : Member) (cs : List Report) → AllByRecursion (λ (r : Report). r.member.who < n) cs → (r : Report) → report_of cs me.who ≡ Some r → me.who < n
+pub owner_low : (n : ℕ) (me : Member) (cs : List Report) → AllByRecursion (λ (r : Report). r.member.who < n) cs → (r : Report) → report_of cs me.who ≡ Some r → me.who < n
 owner_low n me cs low r found =
     let is_low = rw found at (find_all (λ (r : Report). r.member.who < n) (λ (r : Report). r.member.who == me.who) cs low) in
     let is_me = rw found at (found_of cs me.who) in

@@ -16,10 +16,10 @@ use Rattle.tw_machine.specs.RowText.{text_of}
 abbrev at : ℕ → ℕ → ℕ → Act → Step
 at t who h act = record { t = t; who = who; h = h; act = act }
 
-abbrev first_group_team : Team
+abbrev pub first_group_team : Team
 first_group_team = record { n = 3; line = 7; ppm = 0; eps = 1000; delta = 10000; pace = 20000; decide = 10000; ring = 50000; slot = 100000; lease = 400000; quarantine = 1104003; theta = 30000 }
 
-abbrev first_group : List Step
+abbrev pub first_group : List Step
 first_group =
     at 1102001 0 1102001 Look
     ∷ at 1102000 0 1102000 Look
@@ -44,10 +44,10 @@ first_group_rows : text_of (rows_of first_group_team first_group) ≡ codes "1 0
 unfolding digits is_up step kind_rule timed_duties duties
 first_group_rows = refl
 
-abbrev second_group_team : Team
+abbrev pub second_group_team : Team
 second_group_team = record { n = 3; line = 7; ppm = 0; eps = 1000; delta = 10000; pace = 20000; decide = 10000; ring = 50000; slot = 100000; lease = 400000; quarantine = 1104003; theta = 30000 }
 
-abbrev second_group : List Step
+abbrev pub second_group : List Step
 second_group =
     at 1350001 0 1350001 Look
     ∷ at 1350000 0 1350000 Look

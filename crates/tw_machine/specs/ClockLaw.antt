@@ -1,51 +1,9 @@
--- What the clocks of a schedule owe to team time.
-use Rattle.std.specs.Prelude.{ℕ, ◌+◌, ◌-◌, ◌≤◌, ◌≡◌, nat_le, true, List, [], ◌∷◌, Option, Ok, IfSome}
-use Rattle.std.specs.List.{list_all}
+-- How near the readings of a schedule's rows are to team time.
+use Rattle.std.specs.Prelude.{ℕ, ◌+◌, ◌≤◌, List, [], ◌∷◌, IfSome}
 use Rattle.tw_types.specs.declared.team.Team.{Team}
-use Rattle.tw_num.specs.declared.interval.Interval.{Interval}
-use Rattle.tw_num.specs.declared.moment.Moment.{Moment}
-use Rattle.tw_num.specs.Interval.{Holds}
-use Rattle.tw_num.specs.Clock.{interval_at}
-use Rattle.tw_num.specs.Rate.{Rate}
 use Rattle.tw_types.specs.declared.step.Step.{Step}
-use Rattle.tw_machine.specs.Admissible.{each_own, keeps_drift}
-use Rattle.tw_types.specs.Process.{Process}
 use Rattle.tw_types.specs.Row.{Row}
-use Rattle.tw_machine.specs.Event.{Packet}
-use Rattle.tw_machine.specs.Control.{rate_of}
-use Rattle.tw_machine.specs.Step.{moment_of}
 use Rattle.tw_machine.specs.Rows.{row_of}
-use Rattle.tw_machine.specs.Dispatches.{Dispatch}
-
--- Process who may read h at team time t once these steps are done: none of them is later, and its clock keeps the drift from
--- each of its own.
-pub record MayRead (ppm who : ℕ) (past : List Step) (t h : ℕ) : Type 0 where
-  pub time : list_all (λ (e : Step). nat_le e.t t) past ≡ true
-  pub drift : each_own (λ e. keeps_drift ppm e.t e.h t h) who past ≡ true
-
--- what the clock of a process has for an interval at its reading h holds team time t
-abbrev pub ClockHolds : (ppm t h : ℕ) → Process → Type 0
-ClockHolds ppm t h p = IfSome (interval_at ppm h p.timing.clock) (λ i. Holds i t)
-
--- the interval that a datagram was sent with, where it has one, held team time when it was sent
-abbrev pub SentWell : Dispatch → Type 0
-SentWell d = IfSome d.datagram.head.interval (λ i. Holds i d.at)
-
--- A bound of the time that a datagram was on its way, which is received at this step, is not too low.
-abbrev pub Covers : Step → Dispatch → ℕ → Type 0
-Covers s d bound = s.t - d.at ≤ bound
-
--- what the clock of a process that receives the datagram tells it at this step
-abbrev pub moment_in : Team → Step → Dispatch → Process → Moment
-moment_in team s d p = moment_of team s.h (Packet (Ok d.datagram)) p
-
--- the interval that the process has then
-abbrev pub own_interval : Team → Step → Dispatch → Process → Option Interval
-own_interval team s d p = (moment_in team s d p).interval
-
--- the rate of the datagram
-abbrev pub rate_at : Team → Step → Dispatch → Process → Rate
-rate_at team s d p = rate_of team (moment_in team s d p) d.datagram.head
 
 -- a reading is at most eps away from team time t, on either side
 pub record IsNear (eps t reading : ℕ) : Type 0 where
@@ -60,10 +18,3 @@ ReadsNear eps s r = IfSome r.reading (λ reading. IsNear eps s.t reading)
 abbrev pub ReadsWell : Team → List Step → Type 0
 ReadsWell team [] = Unit {0}
 ReadsWell team (s ∷ past) = ReadsWell team past × ReadsNear team.eps s (row_of team past s)
-
--- there are as many rows as steps, and each row reads near the team time of the step in its place
-abbrev pub EachReadsNear : ℕ → List Step → List Row → Type 0
-EachReadsNear eps [] [] = Unit {0}
-EachReadsNear eps (s ∷ ss) (r ∷ rs) = ReadsNear eps s r × EachReadsNear eps ss rs
-EachReadsNear eps [] (r ∷ rs) = ⊥
-EachReadsNear eps (s ∷ ss) [] = ⊥

@@ -1,14 +1,106 @@
--- What the processes of a schedule sent.
-use Rattle.std.specs.Prelude.{ℕ, ◌≡◌, List, Some}
-use Rattle.tw_types.specs.Numbered.{numbered}
+-- What the processes of a schedule promised, what they made and when they were up: lists beside the world, the newest item first.
+-- The laws on groups speak of these lists at one moment; no contract of a function that runs reads them.
+use Rattle.std.specs.Prelude.{ℕ, suc, ◌==◌, Bool, true, false, ◌&&◌, if◌then◌else◌, List, [], ◌∷◌, Option, Some, None}
 use Rattle.tw_types.specs.declared.team.Team.{Team}
+use Rattle.tw_types.specs.declared.message.Member.{Member}
+use Rattle.tw_types.specs.declared.message.Kept.{Kept}
+use Rattle.tw_types.specs.declared.message.Decision.{Decision}
 use Rattle.tw_types.specs.declared.step.Step.{Step}
-use Rattle.tw_types.specs.declared.step.Act.TheVariants.{Recv}
-use Rattle.tw_machine.specs.Dispatches.{Dispatch}
-use Rattle.tw_machine.specs.World.{world}
+use Rattle.tw_types.specs.Votes.{Promise, Making}
+use Rattle.tw_types.specs.Process.{Process}
+use Rattle.tw_machine.specs.Admissible.{is_start}
+use Rattle.tw_machine.specs.Standing.{member_of, last_decision}
+use Rattle.tw_machine.specs.Step.{view_of}
+use Rattle.tw_machine.specs.World.{Deed, deed_in, world}
 
--- the step receives this datagram, which was sent before it
-pub record IsReceipt (team : Team) (past : List Step) (s : Step) (d : Dispatch) : Type 0 where
-  pub number : ℕ
-  pub received : s.act ≡ Recv number
-  pub sent : numbered number (world team past).sent ≡ Some d
+-- A life of a process is the number of its starts so far, 0 of one that was never started.
+abbrev pub life : ℕ → List Step → ℕ
+life who [] = 0
+life who (s ∷ past) = if (s.who == who) && is_start s.act then suc (life who past) else life who past
+
+-- a promise, with its process and life, the team time of its step and the reading of its hardware clock
+pub record Promised : Type 0 where
+  pub who : ℕ
+  pub life : ℕ
+  pub t : ℕ
+  pub h : ℕ
+  pub promise : Promise
+
+-- A decision that was made, by whom and when; the entries that its maker added, and the whole list with them, which stay empty
+-- until there are updates.
+pub record Make : Type 0 where
+  pub who : ℕ
+  pub member : Member
+  pub life : ℕ
+  pub t : ℕ
+  pub h : ℕ
+  pub making : Making
+  pub appended : List Kept
+  pub log : List Kept
+
+-- a process that was up after its step, at this reading and with this last decision
+pub record Up : Type 0 where
+  pub who : ℕ
+  pub member : Member
+  pub life : ℕ
+  pub t : ℕ
+  pub group : ℕ
+  pub reading : ℕ
+  pub last : Decision
+
+pub record History : Type 0 where
+  pub promises : List Promised
+  pub makes : List Make
+  pub ups : List Up
+
+abbrev pub no_history : History
+no_history = record { promises = []; makes = []; ups = [] }
+
+abbrev pub promise_item : ℕ → Step → Promise → Promised
+promise_item life s given = record { who = s.who; life = life; t = s.t; h = s.h; promise = given }
+
+abbrev pub make_item : Member → ℕ → Step → Making → Make
+make_item member life s making = record { who = s.who; member = member; life = life; t = s.t; h = s.h; making = making; appended = []; log = [] }
+
+-- what a step gave in its order, put before what is older
+abbrev pub promises_on : ℕ → Step → List Promise → List Promised → List Promised
+promises_on life s [] older = older
+promises_on life s (given ∷ more) older = promises_on life s more (promise_item life s given ∷ older)
+
+abbrev pub makes_on : Member → ℕ → Step → List Making → List Make → List Make
+makes_on member life s [] older = older
+makes_on member life s (making ∷ more) older = makes_on member life s more (make_item member life s making ∷ older)
+
+-- a process that is up after this step, at its reading and with its last decision
+abbrev pub up_at : ℕ → Step → Process → ℕ → Decision → Up
+up_at life s p reading last = record { who = s.who; member = member_of p.identity; life = life; t = s.t; group = last.group; reading = reading; last = last }
+
+-- who is up has a reading and a last decision
+abbrev pub up_on : ℕ → Step → Process → Bool → Option ℕ → Option Decision → List Up → List Up
+up_on life s p true (Some reading) (Some last) older = up_at life s p reading last ∷ older
+up_on life s p true (Some reading) None older = older
+up_on life s p true None last older = older
+up_on life s p false reading last older = older
+
+-- what the row of the step says of the flag, of the process that runs after the step
+abbrev pub up_by : Team → ℕ → Step → Option Process → List Up → List Up
+up_by team life s None older = older
+up_by team life s (Some p) older = up_on life s p (view_of team s.h p).up (view_of team s.h p).reading (last_decision p) older
+
+-- what a step made was made by the process as it is after it
+abbrev pub makes_by : ℕ → Step → Option Process → List Making → List Make → List Make
+makes_by life s None makings older = older
+makes_by life s (Some p) makings older = makes_on (member_of p.identity) life s makings older
+
+-- the lists after a step that comes to this, in a life
+abbrev pub history_after : Team → ℕ → Step → Deed → History → History
+history_after team life s d older = record {
+  promises = promises_on life s d.promises older.promises;
+  makes = makes_by life s d.process d.makings older.makes;
+  ups = up_by team life s d.process older.ups;
+}
+
+-- the lists after all steps of a schedule
+abbrev pub history : Team → List Step → History
+history team [] = no_history
+history team (s ∷ past) = history_after team (life s.who (s ∷ past)) s (deed_in team (world team past) s) (history team past)

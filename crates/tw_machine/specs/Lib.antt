@@ -18,9 +18,9 @@ pub mod Rules
 pub mod Duties
 pub mod Step
 pub mod World
-pub mod History
 pub mod RowText
 pub mod Rows
+pub mod History
 pub mod Places
 pub mod Started
 pub mod SafeRows

@@ -142,12 +142,3 @@ pub record SafeRows (team : Team) (rows : List Row) : Type 0 where
   pub timed_order : TimedOrder rows
   pub equal_tables : EqualTables rows
   pub leased_support : LeasedSupport team rows
-
--- The five of these that speak of deliveries and tables. They are all that is claimed while it isn't shown yet that those who
--- are up at a reading are of one group.
-pub record SafeDeliveries (team : Team) (rows : List Row) : Type 0 where
-  pub same_deliveries : SameDeliveries rows
-  pub strong_last : StrongLast rows
-  pub backed : Backed team rows
-  pub timed_order : TimedOrder rows
-  pub equal_tables : EqualTables rows

@@ -1,26 +1,14 @@
 //! Laws of every admissible schedule. Each is the contract of a function that does nothing.
 
-ghost use Rattle.std.specs.Prelude.{◌≡◌, ◌≢◌, ◌<◌, ◌≤◌, ◌^◌, ℕ, true, Some, Ok, List, ◌∷◌, None, IfSome, reverse};
+ghost use Rattle.std.specs.Prelude.{◌≡◌, ◌<◌, ◌≤◌, ◌^◌, ℕ, true, Some, Ok, List, None};
 ghost use Rattle.std.specs.List.{AllByRecursion};
 ghost use Rattle.tw_types.specs.declared.team.Team.{Team};
 ghost use Rattle.tw_types.specs.Team.{IsSound};
-ghost use Rattle.tw_types.specs.declared.step.Act.{Act};
 ghost use Rattle.tw_types.specs.declared.step.Step.{Step};
-ghost use Rattle.tw_num.specs.Interval.{Holds};
-ghost use Rattle.tw_num.specs.Rate.{Timely, interval_bound, IfRated};
 ghost use Rattle.tw_machine.specs.Grammar.{IsTeamLine, IsStepLine};
-ghost use Rattle.tw_types.specs.declared.row.RowAnswer.{RowAnswer};
-ghost use Rattle.tw_types.specs.declared.answer.Reason.{Reason};
 ghost use Rattle.tw_types.specs.Row.{Row};
 ghost use Rattle.tw_machine.specs.RowText.{row_text, text_of};
 ghost use Rattle.tw_machine.specs.RowLimits.{RowFits};
-ghost use Rattle.tw_types.specs.Process.{Process};
-ghost use Rattle.tw_machine.specs.World.{world, Admissible, IsReplayable};
-ghost use Rattle.tw_machine.specs.Rows.{rows_of};
-ghost use Rattle.tw_machine.specs.Dispatches.{Dispatch};
-ghost use Rattle.tw_machine.specs.History.{IsReceipt};
-ghost use Rattle.tw_machine.specs.Hearing.{trip_bound, told};
-ghost use Rattle.tw_machine.specs.ClockLaw.{MayRead, ClockHolds, SentWell, Covers, own_interval, rate_at, ReadsWell, EachReadsNear};
 ghost use Rattle.tw_num.specs.declared.moment.Moment.{Moment};
 ghost use Rattle.tw_types.specs.declared.message.Decision.{Decision};
 ghost use Rattle.tw_types.specs.declared.datagram.Head.{Head};
@@ -52,63 +40,10 @@ pub fn rows_print_once()
     ensures rows { (a b : List Row) → AllByRecursion RowFits a → AllByRecursion RowFits b → text_of a ≡ text_of b → a ≡ b }
 {}
 
-/// Clocks tell team time, whatever the schedule: a process's interval holds it at each of its steps and from then on, a
-/// printed reading is at most `eps` microseconds away from it, no intervals of a process contradict each other, and each
-/// interval that a datagram tells held team time when the datagram was sent. This rests on hardware clocks that keep the
-/// team's drift bound, and on references that hold team time; datagrams may be late, lost and repeated.
-pub fn clocks_hold_team_time()
-    ensures interval { (team : Team) (past : List Step) (s : Step) → IsSound team →
-        IsReplayable team (s ∷ past) →
-        IfSome ((world team (s ∷ past)).process_of s.who) (ClockHolds team.ppm s.t s.h) }
-    ensures later { (team : Team) (past : List Step) (who t h : ℕ) → IsSound team →
-        IsReplayable team past → MayRead team.ppm who past t h →
-        IfSome ((world team past).process_of who) (ClockHolds team.ppm t h) }
-    ensures reading { (team : Team) (past : List Step) → IsSound team →
-        IsReplayable team past → ReadsWell team past }
-    ensures rows { (team : Team) (past : List Step) → IsSound team →
-        IsReplayable team past →
-        EachReadsNear team.eps (reverse past) (rows_of team past) }
-    ensures disjoint { (team : Team) (past : List Step) (who : ℕ) → IsSound team →
-        IsReplayable team past →
-        IfSome ((world team past).process_of who) (λ (p : Process). p.timing.clock.disjoint ≡ None) }
-    ensures not_dropped { (team : Team) (past : List Step) → IsSound team →
-        IsReplayable team past →
-        AllByRecursion (λ (r : Row). r.answer ≢ RowAnswer.Dropped Reason.Disjoint) (rows_of team past) }
-    ensures sent { (team : Team) (past : List Step) → IsSound team →
-        IsReplayable team past →
-        AllByRecursion SentWell (world team past).sent }
-{}
-
-/// No bound of a received datagram's delay is too low, whatever the schedule: neither the one by its round trip nor the one by
-/// the receiver's own interval, so nor the one that the datagram's rate tells. A datagram that is timely at its receipt was on
-/// its way for at most the time-out. `s.t` less `d.at` is the true delay.
-pub fn bounds_cover_every_delay()
-    ensures receipt { (team : Team) (past : List Step) (s : Step) (number : ℕ) →
-        Admissible team (s ∷ past) → s.act ≡ Act.Recv number →
-        (d : Dispatch) × IsReceipt team past s d × (d.to ≡ s.who) }
-    ensures before { (team : Team) (past : List Step) (s : Step) (d : Dispatch) → IsSound team →
-        IsReplayable team (s ∷ past) → IsReceipt team past s d → d.at ≤ s.t }
-    ensures echo { (team : Team) (past : List Step) (s : Step) (d : Dispatch) → IsSound team →
-        IsReplayable team (s ∷ past) → IsReceipt team past s d →
-        IfSome (trip_bound team.ppm s.h d.datagram.head) (Covers s d) }
-    ensures interval { (team : Team) (past : List Step) (s : Step) (d : Dispatch) → IsSound team →
-        IsReplayable team (s ∷ past) → IsReceipt team past s d →
-        IfSome ((world team past).process_of s.who) (λ (p : Process).
-        IfSome (interval_bound (own_interval team s d p) d.datagram.head.interval) (Covers s d)) }
-    ensures rate { (team : Team) (past : List Step) (s : Step) (d : Dispatch) → IsSound team →
-        IsReplayable team (s ∷ past) → IsReceipt team past s d →
-        IfSome ((world team past).process_of s.who) (λ (p : Process). IfRated (Covers s d) (rate_at team s d p)) }
-    ensures timely { (team : Team) (past : List Step) (s : Step) (d : Dispatch) (bound : ℕ) → IsSound team →
-        IsReplayable team (s ∷ past) → IsReceipt team past s d →
-        IfSome ((world team past).process_of s.who) (λ (p : Process). rate_at team s d p ≡ Timely bound → Covers s d team.delta) }
-    ensures told { (team : Team) (past : List Step) (s : Step) (d : Dispatch) → IsSound team →
-        IsReplayable team (s ∷ past) → IsReceipt team past s d →
-        IfSome (told team.ppm s.h d.datagram.head) (λ i. Holds i s.t) }
-{}
-
 /// Duties that exclude each other in one step, of every process: who makes a next decision makes no group, so that a step makes
-/// one decision at most; and what was made in a step, or of another group than the promised one, isn't said again in it, so who
-/// makes a decision or holds an election repeats nothing.
+/// one decision at most; and what was made in a step isn't said again in it, nor a decision of a lower group than the promised
+/// one, so who makes a decision repeats nothing, and neither does who holds an election and took no decision of a group above
+/// its promise.
 pub fn duties_exclude_each_other()
     ensures group { (team : Team) (now : Moment) (t : ℕ) (r : Run) → has_turn team t (drop_ballot team t r).process ≡ true →
         make_group team now t (take_turn team now t (drop_ballot team t r)) ≡ take_turn team now t (drop_ballot team t r) }

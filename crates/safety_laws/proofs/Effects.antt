@@ -1,0 +1,466 @@
+-- Each part of a step is a row of effects, and so is a step.
+use Rattle.std.proofs.Common.{◌≡◌, refl, sym, ap, subst, ◌∙◌, ℕ, ◌<◌, Bool, true, false, cond, not, ◌&&◌, nat_eq, nat_lt, List, [], ◌∷◌, ◌++◌, map, Option, Some, None, Result, Ok, Err, arith}
+use Rattle.std.specs.List.{AllByRecursion}
+use Rattle.std.proofs.lemmas.Bool.Decides.{nat_tests}
+use Rattle.std.proofs.lemmas.List.{map-append, append_assoc, append-nil}
+use Rattle.tw_num.specs.Rate.{Rate, Timely, Late, Unrated}
+use Rattle.tw_types.specs.declared.answer.Reason.{Reason}
+use Rattle.tw_types.specs.declared.answer.Reason.TheVariants as reasons
+use Rattle.tw_types.specs.declared.ballot.Ballot.{Ballot}
+use Rattle.tw_types.specs.declared.datagram.Head.{Head}
+use Rattle.tw_types.specs.declared.datagram.Why.{Why}
+use Rattle.tw_types.specs.declared.datagram.Body.{Body}
+use Rattle.tw_types.specs.declared.datagram.Body.TheVariants as bodies
+use Rattle.tw_types.specs.declared.datagram.Datagram.{Datagram}
+use Rattle.tw_types.specs.declared.message.Decision.{Decision}
+use Rattle.tw_types.specs.declared.message.Member.{Member}
+use Rattle.tw_types.specs.declared.step.Step.{Step}
+use Rattle.tw_types.specs.Refusals.{Refusal, first_refusal}
+use Rattle.tw_types.specs.Votes.{Promise, Making}
+use Rattle.tw_types.specs.Reports.{is_by_informed, kind_of}
+use Rattle.tw_types.specs.Beliefs.{Belief, Informed, Blank, Log, is_informed, view_decision, log_length}
+use Rattle.tw_types.specs.Ballots.{wants, is_over, is_complete}
+use Rattle.tw_types.specs.Decisions.{or_none, is_older, has_seat}
+use Rattle.tw_types.specs.Elections.{why_begun, own_promise}
+use Rattle.tw_types.specs.Groups.{NoGroup, group_made, group_making, first_decision, objections, first_objection, next_making}
+use Rattle.tw_types.specs.Taking.{taken}
+use Rattle.tw_types.specs.Turns.{is_turn, next_decision}
+use Rattle.tw_types.specs.Promises.{is_quarantined, is_in_window}
+use Rattle.tw_types.specs.Process.{Process}
+use Rattle.tw_machine.specs.Dispatches.{sent_at}
+use Rattle.tw_machine.specs.History.{Promised, promise_item, make_item, promises_on, makes_on}
+use Rattle.tw_machine.specs.History as items
+use Rattle.tw_machine.specs.Run.{Run, Ruled, done, dropped, with_sends}
+use Rattle.tw_machine.specs.Sending.{datagram_to, others, sent_to, sent_to_others}
+use Rattle.tw_machine.specs.Standing.{member_of, last_decision, report_by, promise_by}
+use Rattle.tw_machine.specs.Control.{rate_of, timely_reading, if_timely}
+use Rattle.tw_machine.specs.Taking.{decision_tests, decision_taken, take_decision}
+use Rattle.tw_machine.specs.Electing.{promised, answer_tests, election_answered, answer_election, ballot_dropped, has_spent_ballot, drop_ballot, holds_election, election_begun, begin_election}
+use Rattle.tw_machine.specs.Deciding.{making_kept, decision_made, has_turn, turn_taken, take_turn}
+use Rattle.tw_machine.specs.Grouping.{promise_added, take_promise, group_begun, make_group}
+use Rattle.tw_machine.specs.Beating.{is_due, beat_marked, is_repeated, repeat_decision, beat_given, give_beat}
+use Rattle.tw_machine.specs.Rules.{kind_rule, rule}
+use Rattle.tw_machine.specs.Duties.{timed_duties, duties_if_timed, duties}
+use Rattle.tw_machine.proofs.Tables.{all_mapped, all_of, equal_numbers}
+use Rattle.safety_laws.specs.Effects.{Written, State, Here, state_of, NotBelow, Says, IsToldBy, BallotReason, MakeReason, Change, Changes}
+
+-- one item more, at the end of what a step gave, stands first
+pub promise_first : (life : ℕ) (s : Step) (given : Promise) (ps : List Promise) (older : List Promised) → promises_on life s (ps ++ given ∷ []) older ≡ promise_item life s given ∷ promises_on life s ps older
+promise_first life s given [] older = refl
+promise_first life s given (p ∷ ps) older = promise_first life s given ps (promise_item life s p ∷ older)
+
+pub make_first : (member : Member) (life : ℕ) (s : Step) (making : Making) (ms : List Making) (older : List items.Make) → makes_on member life s (ms ++ making ∷ []) older ≡ make_item member life s making ∷ makes_on member life s ms older
+make_first member life s making [] older = refl
+make_first member life s making (m ∷ ms) older = make_first member life s making ms (make_item member life s m ∷ older)
+
+pub same_greatest : (o : Option ℕ) → NotBelow o o
+same_greatest None = tt
+same_greatest (Some g) = omega arith
+
+pub greatest_grows : (a b c : Option ℕ) → NotBelow a b → NotBelow b c → NotBelow a c
+greatest_grows None b c low high = tt
+greatest_grows (Some x) None c low high = absurd low
+greatest_grows (Some x) (Some y) None low high = absurd high
+greatest_grows (Some x) (Some y) (Some z) low high = omega arith
+
+-- tests that all pass
+none_present : (rs : List Refusal) → first_refusal rs ≡ None → AllByRecursion (λ (r : Refusal). r.present ≡ false) rs
+none_present [] none = tt
+none_present (r ∷ rs) none = go r.present refl none (none_present rs)
+  where
+    go : (b : Bool) → r.present ≡ b → cond b (Some r.reason) (first_refusal rs) ≡ None → (first_refusal rs ≡ None → AllByRecursion (λ (r : Refusal). r.present ≡ false) rs) → (r.present ≡ false) × AllByRecursion (λ (r : Refusal). r.present ≡ false) rs
+    go true e f rest = absurd (cc)
+    go false e f rest = (e, rest f)
+
+not_false : (b : Bool) → not b ≡ false → b ≡ true
+not_false true e = refl
+not_false false e = absurd (cc)
+
+-- a timely datagram is used at the reading
+timely_at : (rate : Rate) (reading : Option ℕ) (t : ℕ) → timely_reading rate reading ≡ Ok t → reading ≡ Some t
+timely_at Unrated reading t e = absurd (cc)
+timely_at (Late bound) reading t e = absurd (cc)
+timely_at (Timely bound) None t e = absurd (cc)
+timely_at (Timely bound) (Some u) t e = cc
+
+-- ---- in one step, after what was written down before it
+
+module _ (here : Here) (before : Written) where
+  abbrev at : Run → State
+  at r = state_of here before r
+
+  -- the clock's greatest reading is the one of the step, where there is one
+  abbrev pub IsRead : Run → Type 0
+  IsRead r = (t : ℕ) → here.now.reading ≡ Some t → r.process.timing.clock.greatest ≡ Some t
+
+  -- from one run to a later one of the step
+  pub record Row (a b : Run) : Type 0 where
+    pub changes : Changes here (state_of here before a) (state_of here before b)
+    pub read : IsRead b
+
+  pub join : (x y z : State) → Changes here x y → Changes here y z → Changes here x z
+  join x y z first Changes.Done = first
+  join x y z first (Changes.Then rest last) = Changes.Then (join x y _ first rest) last
+
+  pub after : (a b c : Run) → Row a b → Row b c → Row a c
+  after a b c first next = record { changes = join (at a) (at b) (at c) first.changes next.changes; read = next.read }
+
+  nothing : (r : Run) → IsRead r → Row r r
+  nothing r read = record { changes = Changes.Done; read = read }
+
+  one : (a b : Run) → Change here (at a) (at b) → IsRead b → Row a b
+  one a b change read = record { changes = Changes.Then Changes.Done change; read = read }
+
+  -- sending
+
+  sends : (r : Run) (new : List (ℕ × Datagram)) → AllByRecursion (IsToldBy here (at (with_sends new r))) new → Change here (at r) (at (with_sends new r))
+  sends r new told = Change.Keep (record {
+    identity = refl;
+    vote = refl;
+    ballot = refl;
+    belief = refl;
+    base = refl;
+    length = refl;
+    greatest = same_greatest r.process.timing.clock.greatest;
+    promises = refl;
+    makes = refl;
+    ups = refl;
+    new = new;
+    sent = ap (λ xs. before.sent ++ xs) (map-append (sent_at here.step.t) r.out.sends new) ∙ sym (append_assoc before.sent (map (sent_at here.step.t) r.out.sends) (map (sent_at here.step.t) new));
+    told = told;
+  })
+
+  others_sent : (n : ℕ) (body : Body) (r : Run) → IsRead r → Says here (at r) body → Row r (sent_to_others n here.now body r)
+  others_sent n body r read says =
+      let to_each = datagram_to here.now r.process.identity r.process.timing body in
+      let new = map to_each (others n r.process.identity.who) in
+      one r (sent_to_others n here.now body r)
+      (sends r new (all_mapped (IsToldBy here (at (with_sends new r))) to_each (others n r.process.identity.who)
+      (all_of (λ to. IsToldBy here (at (with_sends new r)) (to_each to)) (others n r.process.identity.who) (λ to. record { from = refl; incarnation = refl; says = says }))))
+      read
+
+  one_sent : (to : ℕ) (body : Body) (r : Run) → IsRead r → Says here (at r) body → Row r (sent_to here.now body to r)
+  one_sent to body r read says =
+      let new = datagram_to here.now r.process.identity r.process.timing body to ∷ [] in
+      one r (sent_to here.now body to r) (sends r new (record { from = refl; incarnation = refl; says = says }, tt)) read
+
+  -- a promise
+
+  record MayPromise (given : Promise) (t : ℕ) (r : Run) : Type 0 where
+    reading : here.now.reading ≡ Some t
+    not_quarantined : is_quarantined here.team r.process.identity here.now.h ≡ false
+    in_window : is_in_window here.team given.number t ≡ true
+    above : r.process.vote.promised < given.number
+    report : given.report ≡ report_by r.process t
+    decision : given.decision ≡ last_decision r.process
+
+  promise_row : (given : Promise) (t : ℕ) (r : Run) → IsRead r → MayPromise given t r → Row r (promised given r)
+  promise_row given t r read may = one r (promised given r)
+      (Change.Give (record {
+        given = given;
+        t = t;
+        reading = may.reading;
+        read = read t may.reading;
+        not_quarantined = may.not_quarantined;
+        in_window = may.in_window;
+        above = may.above;
+        report = may.report;
+        decision = may.decision;
+        process = refl;
+        written = ap (λ ps. record (state_of here before r).written { promises = ps }) (promise_first here.life here.step given r.promises before.promises);
+      }))
+      read
+
+  -- the newest promise is the one that was just given
+  newest : (given : Promise) (r : Run) → (older : List Promised) × ((at (promised given r)).written.promises ≡ promise_item here.life here.step given ∷ older)
+  newest given r = (promises_on here.life here.step r.promises before.promises, promise_first here.life here.step given r.promises before.promises)
+
+  -- the duties
+
+  drop_row : (t : ℕ) (r : Run) → IsRead r → Row r (drop_ballot here.team t r)
+  drop_row t r read = go (has_spent_ballot here.team t r.process)
+    where
+      go : (test : Bool) → Row r (cond test (ballot_dropped r) r)
+      go true = one r (ballot_dropped r) (Change.Hold (record { process = refl; written = refl; reason = BallotReason.Drops refl })) read
+      go false = nothing r read
+
+  -- what is made, and goes to all others
+  made_row : (making : Making) (t : ℕ) (a r : Run) → IsRead a → here.now.reading ≡ Some t → making.decision.made ≡ t → making.decision.group ≡ a.process.vote.promised
+      → MakeReason here making t (at a) (at (making_kept making t r))
+      → (at r).written ≡ (at a).written → r.process ≡ record (a.process) { ballot = r.process.ballot }
+      → Row a (decision_made here.team here.now making t r)
+  made_row making t a r read reading made group reason same kept =
+      after a (making_kept making t r) (decision_made here.team here.now making t r)
+      (one a (making_kept making t r)
+      (Change.Make (record {
+        making = making;
+        t = t;
+        reading = reading;
+        read = read t reading;
+        made = made;
+        group = group;
+        reason = reason;
+        process = ap (λ (p : Process). record p { vote = record (p.vote) { support = Some t }; belief = taken making.decision }) kept;
+        written = ap (λ ms. record (state_of here before r).written { makes = ms }) (make_first (member_of r.process.identity) here.life here.step making r.makings before.makes) ∙ all_same;
+      }))
+      kept_read)
+      (others_sent here.team.n (bodies.Decision making.decision) (making_kept making t r) kept_read refl)
+    where
+      kept_read : IsRead (making_kept making t r)
+      kept_read u e = ap (λ (p : Process). p.timing.clock.greatest) kept ∙ read u e
+
+      all_same : record (at r).written { makes = make_item (member_of r.process.identity) here.life here.step making ∷ (at r).written.makes } ≡ record (at a).written { makes = make_item (member_of a.process.identity) here.life here.step making ∷ (at a).written.makes }
+      all_same =
+          ap (λ (w : Written). record w { makes = make_item (member_of r.process.identity) here.life here.step making ∷ w.makes }) same
+          ∙ ap (λ (p : Process). record (at a).written { makes = make_item (member_of p.identity) here.life here.step making ∷ (at a).written.makes }) kept
+
+  turn_row : (t : ℕ) (r : Run) → IsRead r → here.now.reading ≡ Some t → Row r (take_turn here.team here.now t r)
+  turn_row t r read reading = go (last_decision r.process) refl
+    where
+      by_test : (last : Decision) → last_decision r.process ≡ Some last → (test : Bool) → has_turn here.team t r.process ≡ test → Row r (cond test (turn_taken here.team here.now last t r) r)
+      by_test last is true e =
+          let turn : is_turn here.team (member_of r.process.identity) (Some last) r.process.vote.promised t ≡ true = subst (λ (o : Option Decision). is_turn here.team (member_of r.process.identity) o r.process.vote.promised t ≡ true) is e in
+          made_row (next_making last (next_decision [] last t r.process.identity.who)) t r r read reading refl (grind (arith, nat_tests)) (MakeReason.Next last is turn refl refl) refl refl
+      by_test last is false e = nothing r read
+
+      go : (o : Option Decision) → last_decision r.process ≡ o → Row r (elim o as (λ o. Run) [ None ↦ r | Some last ↦ cond (has_turn here.team t r.process) (turn_taken here.team here.now last t r) r ])
+      go None is = nothing r read
+      go (Some last) is = by_test last is (has_turn here.team t r.process) refl
+
+  -- a ballot that is held is of the promised number
+  abbrev IsPromised : Run → Type 0
+  IsPromised r = (ballot : Ballot) → r.process.ballot ≡ Some ballot → r.process.vote.promised ≡ ballot.number
+
+  drop_leaves_promised : (t : ℕ) (r : Run) → IsPromised (drop_ballot here.team t r)
+  drop_leaves_promised t r = go (has_spent_ballot here.team t r.process) refl
+    where
+      left : (ballot : Ballot) (o : Option Ballot) → o ≡ Some ballot → (elim o as (λ o. Bool) [ None ↦ false | Some ballot ↦ is_over here.team r.process.vote.promised (last_decision r.process) t ballot ]) ≡ false → r.process.vote.promised ≡ ballot.number
+      left ballot None is e = absurd (cc)
+      left ballot (Some b) is e = let same : b ≡ ballot = cc in subst (λ (x : Ballot). r.process.vote.promised ≡ x.number) same (grind (arith, nat_tests))
+
+      go : (test : Bool) → has_spent_ballot here.team t r.process ≡ test → IsPromised (cond test (ballot_dropped r) r)
+      go true e ballot is = absurd (cc)
+      go false e ballot is = left ballot r.process.ballot is e
+
+  turn_leaves_promised : (t : ℕ) (r : Run) → IsPromised r → IsPromised (take_turn here.team here.now t r)
+  turn_leaves_promised t r promised = go (last_decision r.process)
+    where
+      by_test : (last : Decision) (test : Bool) → IsPromised (cond test (turn_taken here.team here.now last t r) r)
+      by_test last true = promised
+      by_test last false = promised
+
+      go : (o : Option Decision) → IsPromised (elim o as (λ o. Run) [ None ↦ r | Some last ↦ cond (has_turn here.team t r.process) (turn_taken here.team here.now last t r) r ])
+      go None = promised
+      go (Some last) = by_test last (has_turn here.team t r.process)
+
+  -- a group that is made is of its ballot's number, by its maker at that moment
+  record IsGroup (ballot : Ballot) (t : ℕ) (d : Decision) : Type 0 where
+    made : d.made ≡ t
+    group : d.group ≡ ballot.number
+
+  group_is : (ballot : Ballot) (me : Member) (t : ℕ) (d : Decision) → group_made here.team ballot me t ≡ Ok d → IsGroup ballot t d
+  group_is ballot me t d e = go (first_objection (objections here.team ballot me)) e
+    where
+      go : (o : Option NoGroup) → (elim o as (λ o. Result Decision NoGroup) [ None ↦ Ok (first_decision here.team ballot me t) | Some why ↦ Err why ]) ≡ Ok d → IsGroup ballot t d
+      go None e = let same : first_decision here.team ballot me t ≡ d = cc in subst (IsGroup ballot t) same (record { made = refl; group = refl })
+      go (Some why) e = absurd (cc)
+
+  group_row : (t : ℕ) (r : Run) → IsRead r → here.now.reading ≡ Some t → IsPromised r → Row r (make_group here.team here.now t r)
+  group_row t r read reading promised = go r.process.ballot refl
+    where
+      made : (ballot : Ballot) → Result Decision NoGroup → Run
+      made ballot o = elim o as (λ o. Run) [ Ok d ↦ group_begun here.team here.now ballot d t r | Err why ↦ r ]
+
+      begun : (ballot : Ballot) → r.process.ballot ≡ Some ballot → is_complete here.team t ballot ≡ true → (o : Result Decision NoGroup) → group_made here.team ballot (member_of r.process.identity) t ≡ o → Row r (made ballot o)
+      begun ballot is full (Ok d) e =
+          let new = group_is ballot (member_of r.process.identity) t d e in
+          made_row (group_making ballot d) t r (ballot_dropped r) read reading new.made (new.group ∙ sym (promised ballot is)) (MakeReason.Group ballot is full e refl refl) refl refl
+      begun ballot is full (Err why) e = nothing r read
+
+      by_test : (ballot : Ballot) → r.process.ballot ≡ Some ballot → (test : Bool) → is_complete here.team t ballot ≡ test → Row r (cond test (made ballot (group_made here.team ballot (member_of r.process.identity) t)) r)
+      by_test ballot is true e = begun ballot is e (group_made here.team ballot (member_of r.process.identity) t) refl
+      by_test ballot is false e = nothing r read
+
+      go : (o : Option Ballot) → r.process.ballot ≡ o → Row r (elim o as (λ o. Run) [ None ↦ r | Some ballot ↦ cond (is_complete here.team t ballot) (made ballot (group_made here.team ballot (member_of r.process.identity) t)) r ])
+      go None is = nothing r read
+      go (Some ballot) is = by_test ballot is (is_complete here.team t ballot) refl
+
+  informed_by : (r : Run) → is_by_informed (report_by r.process 0) ≡ true → is_informed r.process.belief ≡ true
+  informed_by r e = go r.process.belief e
+    where
+      go : (b : Belief) → is_by_informed (record (report_by r.process 0) { kind = kind_of b }) ≡ true → is_informed b ≡ true
+      go (Informed last) e = refl
+      go (Blank followed) e = absurd (cc)
+
+  election_row : (t : ℕ) (r : Run) → IsRead r → here.now.reading ≡ Some t → Row r (begin_election here.team here.now t r)
+  election_row t r read reading = go (holds_election here.team here.now t r.process) refl
+    where
+      own : Promise
+      own = own_promise here.team (report_by r.process t) (last_decision r.process) t
+
+      why : Why
+      why = why_begun here.team (last_decision r.process) t
+
+      held : holds_election here.team here.now t r.process ≡ true → Row r (election_begun here.team here.now why own r)
+      held e =
+          let given : Run = promised own r in
+          let ballot : Run = record given { process = record (given.process) { ballot = Some (record { number = own.number; ring = None; reports = record { items = own.report ∷ [] }; best = own.decision; best_from = r.process.identity.who }) } } in
+          let may : MayPromise own t r = record { reading = reading; not_quarantined = grind (arith, nat_tests); in_window = grind (arith, nat_tests); above = grind (arith, nat_tests); report = refl; decision = refl } in
+          let first : Row r given = promise_row own t r read may in
+          after r given (election_begun here.team here.now why own r) first
+          (after given _ (election_begun here.team here.now why own r)
+          (one given _ (Change.Hold (record {
+            process = refl;
+            written = refl;
+            reason = BallotReason.Begins own (newest own r).0 (newest own r).1 refl (grind (arith, nat_tests)) (informed_by r (grind (arith, nat_tests))) refl refl refl;
+          })) read)
+          (others_sent here.team.n (bodies.Election own.number why) _ read tt))
+
+      go : (test : Bool) → holds_election here.team here.now t r.process ≡ test → Row r (cond test (election_begun here.team here.now why own r) r)
+      go true e = held e
+      go false e = nothing r read
+
+  timed_row : (t : ℕ) (r : Run) → IsRead r → here.now.reading ≡ Some t → Row r (timed_duties here.team here.now t r)
+  unfolding timed_duties
+  timed_row t r read reading =
+      let a : Run = drop_ballot here.team t r in
+      let b : Run = take_turn here.team here.now t a in
+      let c : Run = make_group here.team here.now t b in
+      let first : Row r a = drop_row t r read in
+      let second : Row a b = turn_row t a first.read reading in
+      let third : Row b c = group_row t b second.read reading (turn_leaves_promised t a (drop_leaves_promised t r)) in
+      let fourth : Row c (begin_election here.team here.now t c) = election_row t c third.read reading in
+      after r c (begin_election here.team here.now t c) (after r b c (after r a b first second) third) fourth
+
+  if_timed_row : (reading : Option ℕ) (r : Run) → here.now.reading ≡ reading → IsRead r → Row r (duties_if_timed here.team here.now reading r)
+  if_timed_row None r is read = nothing r read
+  if_timed_row (Some t) r is read = timed_row t r read is
+
+  repeat_row : (r : Run) → IsRead r → Row r (repeat_decision here.team here.now r)
+  repeat_row r read = go (last_decision r.process) refl
+    where
+      by_test : (last : Decision) → last_decision r.process ≡ Some last → (test : Bool) → Row r (cond test (sent_to_others here.team.n here.now (bodies.Decision last) r) r)
+      by_test last is true = others_sent here.team.n (bodies.Decision last) r read is
+      by_test last is false = nothing r read
+
+      go : (o : Option Decision) → last_decision r.process ≡ o → Row r (elim o as (λ o. Run) [ None ↦ r | Some last ↦ cond (is_repeated here.team r.process last here.now.reading) (sent_to_others here.team.n here.now (bodies.Decision last) r) r ])
+      go None is = nothing r read
+      go (Some last) is = by_test last is (is_repeated here.team r.process last here.now.reading)
+
+  -- a change of what no law on groups reads
+  pub still : (a b : Run) → b.process.identity ≡ a.process.identity → b.process.vote ≡ a.process.vote → b.process.ballot ≡ a.process.ballot → b.process.belief ≡ a.process.belief → b.process.log ≡ a.process.log
+      → NotBelow a.process.timing.clock.greatest b.process.timing.clock.greatest → b.promises ≡ a.promises → b.makings ≡ a.makings → b.out.sends ≡ a.out.sends → Change here (at a) (at b)
+  still a b identity vote ballot belief log greatest promises makings sends = Change.Keep (record {
+    identity = identity;
+    vote = vote;
+    ballot = ballot;
+    belief = belief;
+    base = ap (λ (l : Log). l.base) log;
+    length = ap log_length log;
+    greatest = greatest;
+    promises = ap (λ ps. promises_on here.life here.step ps before.promises) promises;
+    makes = rw (identity, makings) refl;
+    ups = refl;
+    new = [];
+    sent = ap (λ ds. before.sent ++ map (sent_at here.step.t) ds) sends ∙ sym (append-nil (before.sent ++ map (sent_at here.step.t) a.out.sends));
+    told = tt;
+  })
+
+  beat_row : (r : Run) → IsRead r → Row r (give_beat here.team here.now r)
+  beat_row r read = go (is_due here.team.pace here.now.h r.process.beat)
+    where
+      marked : Run
+      marked = beat_marked here.now.h r
+
+      go : (due : Bool) → Row r (cond due (beat_given here.team here.now r) r)
+      go true =
+          let first : Row r marked = one r marked (still r marked refl refl refl refl refl (same_greatest r.process.timing.clock.greatest) refl refl refl) read in
+          let second : Row marked (repeat_decision here.team here.now marked) = repeat_row marked read in
+          after r marked (beat_given here.team here.now r) first
+          (after marked (repeat_decision here.team here.now marked) (beat_given here.team here.now r) second
+          (others_sent here.team.n (bodies.Sync None) (repeat_decision here.team here.now marked) second.read tt))
+      go false = nothing r read
+
+  pub duties_row : (r : Run) → IsRead r → Row r (duties here.team here.now r)
+  unfolding duties
+  duties_row r read =
+      let b : Run = duties_if_timed here.team here.now here.now.reading r in
+      let first : Row r b = if_timed_row here.now.reading r refl read in
+      after r b (duties here.team here.now r) first (beat_row b first.read)
+
+  -- the rules
+
+  decision_row : (head : Head) (d : Decision) (r : Run) → IsRead r → here.mail ≡ Some (record { head = head; body = bodies.Decision d }) → Row r (take_decision d r).run
+  decision_row head d r read mail = go (first_refusal (decision_tests r.process d)) refl
+    where
+      newer : (rest : List Refusal) → first_refusal (decision_tests r.process d) ≡ None → is_older (or_none (view_decision r.process.belief)).group (or_none (view_decision r.process.belief)).turn d.group d.turn ≡ true
+      newer rest e = not_false _ (none_present (decision_tests r.process d) e).0
+
+      informed : first_refusal (decision_tests r.process d) ≡ None → is_informed r.process.belief ≡ true
+      informed e = not_false _ (none_present (decision_tests r.process d) e).1.1.1.0
+
+      seat : first_refusal (decision_tests r.process d) ≡ None → has_seat (member_of r.process.identity) d ≡ true
+      seat e = not_false _ (ap (λ b. b && not (has_seat (member_of r.process.identity) d)) (sym (informed e)) ∙ (none_present (decision_tests r.process d) e).1.0)
+
+      group : first_refusal (decision_tests r.process d) ≡ None → d.group ≡ r.process.vote.promised
+      group e =
+          let barred : cond (is_informed r.process.belief) (not (nat_eq d.group r.process.vote.promised)) (nat_lt d.group r.process.vote.promised) ≡ false = (none_present (decision_tests r.process d) e).1.1.0 in
+          let same : nat_eq d.group r.process.vote.promised ≡ true = not_false _ (ap (λ b. cond b (not (nat_eq d.group r.process.vote.promised)) (nat_lt d.group r.process.vote.promised)) (sym (informed e)) ∙ barred) in
+          equal_numbers d.group r.process.vote.promised same
+
+      go : (o : Option Reason) → first_refusal (decision_tests r.process d) ≡ o → Row r (elim o as (λ o. Ruled) [ None ↦ done (decision_taken d r) | Some reason ↦ dropped reason r ]).run
+      go None e = one r (decision_taken d r)
+          (Change.Take (record { taken_decision = d; head = head; received = mail; newer = newer [] e; seat = seat e; promised = group e; process = refl; written = refl })) read
+      go (Some reason) e = nothing r read
+
+  answer_row : (from number : ℕ) (why : Why) (t : ℕ) (r : Run) → IsRead r → here.now.reading ≡ Some t → Row r (answer_election here.team here.now from number why t r).run
+  answer_row from number why t r read reading = go (first_refusal (answer_tests here.team here.now from number why t r.process)) refl
+    where
+      given : Promise
+      given = promise_by r.process number t
+
+      may : first_refusal (answer_tests here.team here.now from number why t r.process) ≡ None → MayPromise given t r
+      may e =
+          let all = none_present (answer_tests here.team here.now from number why t r.process) e in
+          record {
+            reading = reading;
+            not_quarantined = all.0;
+            in_window = not_false _ all.1.1.0;
+            above = let low = all.1.1.1.0 in grind (arith, nat_tests);
+            report = refl;
+            decision = refl;
+          }
+
+      go : (o : Option Reason) → first_refusal (answer_tests here.team here.now from number why t r.process) ≡ o → Row r (elim o as (λ o. Ruled) [ None ↦ done (election_answered here.now from given r) | Some reason ↦ dropped reason r ]).run
+      go None e = after r (promised given r) (election_answered here.now from given r) (promise_row given t r read (may e)) (one_sent from (bodies.Promise given.number given.report given.decision) (promised given r) read (newest given r))
+      go (Some reason) e = nothing r read
+
+  ballot_row : (head : Head) (given : Promise) (r : Run) → IsRead r → here.mail ≡ Some (record { head = head; body = bodies.Promise given.number given.report given.decision }) → Row r (take_promise given r).run
+  ballot_row head given r read mail = go (wants given r.process.ballot) refl
+    where
+      go : (test : Bool) → wants given r.process.ballot ≡ test → Row r (cond test (done (promise_added given r)) (dropped reasons.Old r)).run
+      go true e = one r (promise_added given r) (Change.Hold (record { process = refl; written = refl; reason = BallotReason.Adds given head mail e refl })) read
+      go false e = nothing r read
+
+  timely_row : (head : Head) (rule : ℕ → Run → Ruled) (r : Run) → IsRead r → ((t : ℕ) → here.now.reading ≡ Some t → Row r (rule t r).run) → Row r (if_timely here.team here.now head rule r).run
+  timely_row head rule r read each = go (timely_reading (rate_of here.team here.now head) here.now.reading) refl
+    where
+      go : (o : Result ℕ Reason) → timely_reading (rate_of here.team here.now head) here.now.reading ≡ o → Row r (elim o as (λ o. Ruled) [ Err reason ↦ dropped reason r | Ok t ↦ rule t r ]).run
+      go (Err reason) e = nothing r read
+      go (Ok t) e = each t (timely_at (rate_of here.team here.now head) here.now.reading t e)
+
+  kind_row : (head : Head) (body : Body) (r : Run) → IsRead r → here.mail ≡ Some (record { head = head; body = body }) → Row r (kind_rule here.team here.now head body r).run
+  unfolding kind_rule
+  kind_row head (bodies.Update kept) r read mail = nothing r read
+  kind_row head (bodies.Decision d) r read mail = timely_row head (λ t. take_decision d) r read (λ t e. decision_row head d r read mail)
+  kind_row head (bodies.NoDecision number group turn skip reports best) r read mail = nothing r read
+  kind_row head (bodies.Election number why) r read mail = timely_row head (answer_election here.team here.now head.from number why) r read (λ t e. answer_row head.from number why t r read e)
+  kind_row head (bodies.Promise number report d) r read mail = timely_row head (λ t. take_promise (record { number = number; report = report; decision = d })) r read (λ t e. ballot_row head (record { number = number; report = report; decision = d }) r read mail)
+  kind_row head (bodies.Ask want) r read mail = nothing r read
+  kind_row head (bodies.State group position total offset bytes) r read mail = nothing r read
+  kind_row head (bodies.Sync ready) r read mail = nothing r read
+
+  pub rule_row : (packet : Result (Option Datagram) Reason) (r : Run) → IsRead r → ((d : Datagram) → packet ≡ Ok (Some d) → here.mail ≡ Some d) → Row r (rule here.team here.now packet r).run
+  rule_row (Err reason) r read mail = nothing r read
+  rule_row (Ok None) r read mail = nothing r read
+  rule_row (Ok (Some d)) r read mail = kind_row d.head d.body r read (mail d refl)

@@ -1,0 +1,73 @@
+-- The laws on promises, of every schedule.
+use Rattle.std.proofs.Common.{List}
+use Rattle.tw_types.specs.declared.team.Team.{Team}
+use Rattle.tw_types.specs.Team.{IsSound}
+use Rattle.tw_types.specs.declared.step.Step.{Step}
+use Rattle.tw_machine.specs.World.{IsReplayable}
+use Rattle.safety_laws.specs.Ascend.{ascend}
+use Rattle.safety_laws.specs.Latest.{latest}
+use Rattle.safety_laws.specs.Laws.{Law, Both}
+use Rattle.safety_laws.specs.Mail.{mail}
+use Rattle.safety_laws.specs.Names.{names}
+use Rattle.safety_laws.specs.NotAhead.{not_ahead}
+use Rattle.safety_laws.specs.Outlived.{outlived}
+use Rattle.safety_laws.specs.Windows.{windows}
+use Rattle.safety_laws.proofs.Ascend.{before_ascent, ascend_rules}
+use Rattle.safety_laws.proofs.Latest.{latest_rules}
+use Rattle.safety_laws.proofs.Mail.{mail_rules}
+use Rattle.safety_laws.proofs.Names.{names_rules}
+use Rattle.safety_laws.proofs.NotAhead.{not_ahead_rules}
+use Rattle.safety_laws.proofs.Outlived.{outlived_rules}
+use Rattle.safety_laws.proofs.Stack.{LawRules, Kept, stack, law_holds}
+use Rattle.safety_laws.proofs.Windows.{windows_rules}
+use Rattle.safety_laws.specs.Promises.{of_promises}
+use Rattle.safety_laws.proofs.Stack.{IsSameLaw, lifted, renamed}
+
+abbrev with_windows : Team → Law
+with_windows team = Both (Both names (not_ahead team)) (windows team)
+
+abbrev with_ascent : Team → Law
+with_ascent team = Both (before_ascent team) ascend
+
+abbrev with_mail : Team → Law
+with_mail team = Both (with_ascent team) mail
+
+abbrev with_all : Team → Law
+with_all team = Both (with_mail team) (outlived team)
+
+readings_rules : (team : Team) → LawRules team (Both names (not_ahead team))
+readings_rules team = stack team names (not_ahead team) (names_rules team) (not_ahead_rules team)
+
+windows_too : (team : Team) → LawRules team (with_windows team)
+windows_too team = stack team (Both names (not_ahead team)) (windows team) (readings_rules team) (windows_rules team (Both names (not_ahead team)))
+
+latest_too : (team : Team) → LawRules team (before_ascent team)
+latest_too team = stack team (with_windows team) latest (windows_too team)
+    (lifted team (Both names (not_ahead team)) (windows team) latest (lifted team names (not_ahead team) latest (latest_rules team)))
+
+ascent_too : (team : Team) → LawRules team (with_ascent team)
+ascent_too team = stack team (before_ascent team) ascend (latest_too team) (ascend_rules team)
+
+mail_too : (team : Team) → LawRules team (with_mail team)
+mail_too team = stack team (with_ascent team) mail (ascent_too team)
+    (lifted team (before_ascent team) ascend mail (lifted team (with_windows team) latest mail (lifted team (Both names (not_ahead team)) (windows team) mail (lifted team names (not_ahead team) mail (mail_rules team)))))
+
+all_too : (team : Team) → LawRules team (with_all team)
+all_too team = stack team (with_mail team) (outlived team) (mail_too team)
+    (lifted team (with_ascent team) mail (outlived team) (lifted team (before_ascent team) ascend (outlived team) (lifted team (with_windows team) latest (outlived team)
+    (lifted team (Both names (not_ahead team)) (windows team) (outlived team) (outlived_rules team)))))
+
+same_law : (team : Team) → IsSameLaw (with_all team) (of_promises team)
+same_law team = record {
+  history = λ steps w k. record { names = k.0.0.0.0.0.0; near = k.0.0.0.0.0.1; windows = k.0.0.0.0.1; ascend = k.0.0.1; mail = k.0.1; outlived = k.1 };
+  history_back = λ steps w k. ((((((k.names, k.near), k.windows), tt), k.ascend), k.mail), k.outlived);
+  running = λ steps w who p k. record { own = k.0.0.0.0.0.0; behind = k.0.0.0.0.0.1; latest = k.0.0.0.1 };
+  running_back = λ steps w who p k. ((((((k.own, k.behind), tt), k.latest), tt), tt), tt);
+}
+
+pub promises_rules : (team : Team) → LawRules team (of_promises team)
+promises_rules team = renamed team (with_all team) (of_promises team) (same_law team) (all_too team)
+
+-- in every schedule
+pub promised_well : (team : Team) (past : List Step) → IsSound team → IsReplayable team past → Kept team (of_promises team) past
+promised_well team past sound ok = law_holds team (of_promises team) (promises_rules team) past sound ok

@@ -1,0 +1,180 @@
+-- The rows of each schedule are safe.
+use Rattle.std.proofs.Common.{◌≡◌, refl, sym, ap, subst, ◌∙◌, inl, inr, ℕ, zero, suc, ◌+◌, ◌≤◌, ◌<◌, true, List, [], ◌∷◌, ◌++◌, length, Some, slice_get, arith}
+use Rattle.std.proofs.lemmas.List.{length-append}
+use Rattle.std.proofs.lemmas.Option.{same_Some}
+use Rattle.tw_types.specs.declared.team.Team.{Team}
+use Rattle.tw_types.specs.Team.{IsSound}
+use Rattle.tw_types.specs.declared.message.Member.{Member}
+use Rattle.tw_types.specs.declared.step.Step.{Step}
+use Rattle.tw_types.specs.Row.{Row}
+use Rattle.tw_machine.specs.History.{Make, Up, history}
+use Rattle.tw_machine.specs.Places.{Each, Exists}
+use Rattle.tw_machine.specs.Rows.{row_of, rows_of}
+use Rattle.tw_machine.specs.SafeRows.{majority, life_of, AtLeast, IsOfStarted, OneStartedGroup, HasLease, LeasedSupport, SafeRows}
+use Rattle.tw_machine.specs.Started.{members_of, started_at}
+use Rattle.tw_machine.specs.World.{IsReplayable}
+use Rattle.safety_laws.specs.Effects.{written}
+use Rattle.safety_laws.specs.Laws.{In}
+use Rattle.safety_laws.specs.Made.{members}
+use Rattle.safety_laws.specs.Names.{IsNamedUp}
+use Rattle.safety_laws.specs.Groups.{OfGroups}
+use Rattle.safety_laws.specs.Seen.{IsFlagOf}
+use Rattle.safety_laws.specs.Ups.{WasUp}
+use Rattle.safety_laws.proofs.GroupLaws.{grouped_well, agreed}
+use Rattle.safety_laws.proofs.Induction.{earlier}
+use Rattle.safety_laws.proofs.LeasedLists.{HasLeased, leased}
+use Rattle.safety_laws.proofs.Lists.{of_each}
+use Rattle.safety_laws.proofs.MadeLines.{ArePrinted, are_printed, members_of_made, started_is_made}
+use Rattle.safety_laws.proofs.OneGroupLists.{IsFirstOf, none_above, own_started}
+use Rattle.safety_laws.proofs.Quorums.{Agree}
+use Rattle.safety_laws.proofs.SafeRows.{safe_deliveries}
+use Rattle.safety_laws.proofs.Seen.{flags_seen}
+
+-- ---- places of lists
+
+in_exists : {X : Type 0} (xs : List X) (x : X) → In x xs → Exists xs (λ k y. y ≡ x)
+in_exists [] x i = absurd i
+in_exists (y ∷ xs) x (inl e) = (zero, y, refl, sym e)
+in_exists (y ∷ xs) x (inr i) = let k = in_exists xs x i in (suc k.0, k.1, k.2, k.3)
+
+at_in : {X : Type 0} (xs : List X) (k : ℕ) (x : X) → slice_get xs k ≡ Some x → In x xs
+at_in [] k x e = absurd (cc)
+at_in (y ∷ xs) zero x e = inl (sym (same_Some y x e))
+at_in (y ∷ xs) (suc k) x e = inr (at_in xs k x e)
+
+at_below : {X : Type 0} (xs : List X) (k : ℕ) (x : X) → slice_get xs k ≡ Some x → k < length xs
+at_below [] k x e = absurd (cc)
+at_below (y ∷ xs) zero x e = omega arith
+at_below (y ∷ xs) (suc k) x e = let low = at_below xs k x e in omega arith
+
+pushed_at : {X : Type 0} (xs : List X) (last : X) (k : ℕ) (x : X) → slice_get xs k ≡ Some x → slice_get (xs ++ last ∷ []) k ≡ Some x
+pushed_at [] last k x e = absurd (cc)
+pushed_at (y ∷ xs) last zero x e = e
+pushed_at (y ∷ xs) last (suc k) x e = pushed_at xs last k x e
+
+-- what holds at each place of a list, and at the place behind it, holds at each place of the longer one
+each_pushed : {X : Type 0} (P : ℕ → X → Type 0) (xs : List X) (last : X) → Each xs P → P (length xs) last → Each (xs ++ last ∷ []) P
+each_pushed P [] last all new zero x e = subst (P zero) (same_Some last x e) new
+each_pushed P [] last all new (suc k) x e = absurd (cc)
+each_pushed P (y ∷ xs) last all new zero x e = all zero x e
+each_pushed P (y ∷ xs) last all new (suc k) x e = each_pushed (λ i. P (suc i)) xs last (λ i z f. all (suc i) z f) new k x e
+
+at_least_pushed : (count : ℕ) (rows : List Row) (last : Row) (P : ℕ → Row → Type 0) → AtLeast count rows P → AtLeast count (rows ++ last ∷ []) P
+at_least_pushed count rows last P k = record {
+  processes = k.processes;
+  enough = k.enough;
+  each_once = k.each_once;
+  each_has = λ i who e. let h = k.each_has i who e in (h.0, h.1, pushed_at rows last h.0 h.1 h.2, h.3);
+}
+
+-- ---- one started group at a reading
+
+module _ (team : Team) (past : List Step) (sound : IsSound team) (ok : IsReplayable team past) where
+  known : OfGroups team past (written team past)
+  known = (grouped_well team past sound ok).history
+
+  -- who is up after a step was up
+  was_up : (u : Up) → In u (history team past).ups → WasUp team (history team past).makes u
+  was_up u i = of_each (WasUp team (history team past).makes) (history team past).ups u known.ups i
+
+  name_of : (r : Row) (u : Up) → In u (history team past).ups → IsFlagOf r u → u.member ≡ life_of r
+  name_of r u i flag =
+      let named = of_each (IsNamedUp past) (history team past).ups u known.promises.names.ups i in
+      member_is u.member r.who r.incarnation (named.member ∙ flag.who) flag.incarnation
+    where
+      member_is : (m : Member) (who incarnation : ℕ) → m.who ≡ who → m.incarnation ≡ incarnation → m ≡ record { who = who; incarnation = incarnation }
+      member_is m who incarnation p q = ap (λ (w : ℕ). record { who = w; incarnation = m.incarnation }) p ∙ ap (λ (i : ℕ). record { who = who; incarnation = i }) q
+
+  of_started : (r : Row) (u : Up) → In u (history team past).ups → IsFlagOf r u → (reading : ℕ) → r.reading ≡ Some reading → IsOfStarted team (rows_of team past) r reading
+  of_started r u i flag reading is = record {
+    started = ap (started_at (rows_of team past)) (sym same) ∙ started_is_made team (history team past).promises (rows_of team past) (history team past).makes printed known.once known.makes.arise u.reading u.last up.made up.started
+        (λ j there turn start. omega (arith, none_above team (history team past).promises (history team past).makes agree u up j there turn start, up.group)) ∙ ap Some group;
+    has_majority = rw (ap (members_of (rows_of team past)) (sym group) ∙ list) (omega (arith, ap length first.1.last_members, first.1.enough));
+    named = rw (ap (members_of (rows_of team past)) (sym group) ∙ list) (subst (λ ms. Exists ms (λ k m. m ≡ life_of r)) first.1.last_members (name_there (members first.0.making.decision) first.1.named));
+  }
+    where
+      up : WasUp team (history team past).makes u
+      up = was_up u i
+
+      printed : ArePrinted (rows_of team past) (history team past).makes
+      printed = are_printed team past ok
+
+      agree : Agree team (history team past).promises (history team past).makes
+      agree = agreed team past sound ok
+
+      same : u.reading ≡ reading
+      same = same_Some u.reading reading (sym flag.reading ∙ is)
+
+      group : u.last.group ≡ r.group
+      group = sym up.group ∙ flag.group
+
+      first : (first : Make) × IsFirstOf team (history team past).makes u first
+      first = own_started team (history team past).promises (history team past).makes agree u up
+
+      list : members_of (rows_of team past) u.last.group ≡ members u.last
+      list = members_of_made team (history team past).promises (rows_of team past) (history team past).makes printed known.once known.makes.arise u.last up.made
+
+      name_there : (ms : List Member) → In u.member ms → Exists ms (λ k m. m ≡ life_of r)
+      name_there ms there = let k = in_exists ms u.member there in (k.0, k.1, k.2, k.3 ∙ name_of r u i flag)
+
+  pub one_started_group : OneStartedGroup team (rows_of team past)
+  one_started_group i r at reading up is = let u = flags_seen team past i r at up in of_started r u.0 u.1 u.2 reading is
+
+-- ---- leased support
+
+-- of a row that is the last one so far
+last_leased : (team : Team) (past : List Step) (i : ℕ) (r : Row) (reading : ℕ) → IsSound team → IsReplayable team past → slice_get (rows_of team past) i ≡ Some r → length (rows_of team past) ≤ suc i → r.up ≡ true → r.reading ≡ Some reading
+    → AtLeast (majority team) (rows_of team past) (HasLease team i r.group reading)
+last_leased team past i r reading sound ok at last up is =
+    let u = flags_seen team past i r at up in
+    let was = was_up team past sound ok u.0 u.1 in
+    let by = leased team (history team past).promises (history team past).makes (agreed team past sound ok) u.0 was in
+    let same : u.0.reading ≡ reading = same_Some u.0.reading reading (sym u.2.reading ∙ is) in
+    record {
+      processes = by.processes;
+      enough = by.majority.enough;
+      each_once = by.majority.distinct;
+      each_has = λ k who e. has u.0 u.2 same who (by.each who (at_in by.processes k who e));
+    }
+  where
+    has : (u : Up) → IsFlagOf r u → u.reading ≡ reading → (who : ℕ) → (made : Make) × HasLeased team (history team past).makes u who made → Exists (rows_of team past) (λ j s. (s.who ≡ who) × HasLease team i r.group reading j s)
+    has u flag same who (made, h) =
+        let line = (are_printed team past ok).each_make made h.among in (
+          line.0,
+          line.1,
+          line.2,
+          (
+            sym line.3.who ∙ h.by,
+            record {
+              not_after = let low = at_below (rows_of team past) line.0 line.1 line.2 in omega arith;
+              made = rw line.3.line (h.group ∙ flag.group);
+              lasts = rw line.3.reading (let lasts = h.lasts in omega arith);
+            },
+          ),
+        )
+
+pub leased_support : (team : Team) (past : List Step) → IsSound team → IsReplayable team past → LeasedSupport team (rows_of team past)
+leased_support team [] sound ok = λ i r e. absurd (cc)
+leased_support team (s ∷ past) sound ok =
+    each_pushed (λ i r. (reading : ℕ) → r.up ≡ true → r.reading ≡ Some reading → AtLeast (majority team) (rows_of team past ++ row_of team past s ∷ []) (HasLease team i r.group reading)) (rows_of team past) (row_of team past s)
+    (λ i r at reading up is. at_least_pushed (majority team) (rows_of team past) (row_of team past s) (HasLease team i r.group reading) (leased_support team past sound (earlier team past s ok) i r at reading up is))
+    (λ reading up is. last_leased team (s ∷ past) (length (rows_of team past)) (row_of team past s) reading sound ok (last_at (rows_of team past) (row_of team past s)) (let n : length (rows_of team past ++ row_of team past s ∷ []) ≡ length (rows_of team past) + 1 = simp length-append in omega (arith, n)) up is)
+  where
+    last_at : {X : Type 0} (xs : List X) (x : X) → slice_get (xs ++ x ∷ []) (length xs) ≡ Some x
+    last_at [] x = refl
+    last_at (y ∷ xs) x = last_at xs x
+
+-- ---- all seven clauses
+
+pub safe_rows : (team : Team) (past : List Step) → IsSound team → IsReplayable team past → SafeRows team (rows_of team past)
+safe_rows team past sound ok =
+    let quiet = safe_deliveries team past in
+    record {
+      one_started_group = one_started_group team past sound ok;
+      same_deliveries = quiet.same_deliveries;
+      strong_last = quiet.strong_last;
+      backed = quiet.backed;
+      timed_order = quiet.timed_order;
+      equal_tables = quiet.equal_tables;
+      leased_support = leased_support team past sound ok;
+    }

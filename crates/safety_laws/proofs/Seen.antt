@@ -1,0 +1,185 @@
+-- The history is what the rows and the datagrams of a schedule show.
+use Rattle.std.proofs.Common.{◌≡◌, ◌≢◌, refl, sym, ap, subst, ◌∙◌, inl, inr, ℕ, zero, suc, ◌<◌, Bool, true, false, List, [], ◌∷◌, ◌++◌, Option, Some, None, IfSome, slice_get}
+use Rattle.std.proofs.lemmas.Option.{same_Some}
+use Rattle.std.specs.List.{AllByRecursion}
+use Rattle.std.specs.Option.{option_map}
+use Rattle.tw_types.specs.declared.message.Decision.{Decision}
+use Rattle.tw_types.specs.declared.step.Step.{Step}
+use Rattle.tw_types.specs.declared.team.Team.{Team}
+use Rattle.tw_types.specs.Beliefs.{Belief, Informed, Blank, last_of}
+use Rattle.tw_types.specs.Decisions.{or_none}
+use Rattle.tw_types.specs.Flag.{is_up}
+use Rattle.tw_types.specs.Printed.{made_printed}
+use Rattle.tw_types.specs.Process.{Process}
+use Rattle.tw_types.specs.Row.{Row}
+use Rattle.tw_types.specs.Team.{IsSound}
+use Rattle.tw_types.specs.Votes.{Vote}
+use Rattle.tw_machine.specs.Dispatches.{Dispatch}
+use Rattle.tw_machine.specs.Event.{Event}
+use Rattle.tw_machine.specs.History.{Promised, Make, Up, life, make_item, makes_on, makes_by, up_at, up_on, up_by, history}
+use Rattle.tw_machine.specs.Places.{Each, Exists}
+use Rattle.tw_machine.specs.Rows.{row_by, row_of, rows_of}
+use Rattle.tw_machine.specs.Standing.{member_of, last_decision}
+use Rattle.tw_machine.specs.Step.{moment_of, step, view_of}
+use Rattle.tw_machine.specs.World.{Deed, happen, deed_in, world, IsReplayable}
+use Rattle.tw_machine.proofs.Steps.{viewed_after}
+use Rattle.safety_laws.specs.Laws.{In}
+use Rattle.safety_laws.specs.Mail.{TellsGiven}
+use Rattle.safety_laws.specs.Seen.{IsMadeLineOf, IsFlagOf, IsKeptPromise}
+use Rattle.safety_laws.proofs.Induction.{earlier, Turn, turn}
+use Rattle.safety_laws.proofs.MadeTold.{AgreesOnMade, step_agrees}
+use Rattle.safety_laws.proofs.Promises.{promised_well}
+
+-- ---- rows and the items that they show
+
+-- What a row adds to a list of items: none where it speaks of none, or the one that it shows.
+data Adds {I : Type 0} (Speaks : Row → Type 0) (Shows : Row → I → Type 0) (r : Row) (older newer : List I) : Type 0 where
+  Nothing : (Speaks r → ⊥) → newer ≡ older → Adds Speaks Shows r older newer
+  One : (k : I) → Shows r k → newer ≡ k ∷ older → Adds Speaks Shows r older newer
+
+-- the item that a row shows
+abbrev Shown : {I : Type 0} → (Row → I → Type 0) → List I → Row → Type 0
+Shown {I} Shows items r = (k : I) × In k items × Shows r k
+
+record AreSeen {I : Type 0} (Speaks : Row → Type 0) (Shows : Row → I → Type 0) (rows : List Row) (items : List I) : Type 0 where
+  each_row : Each rows (λ i r. Speaks r → Shown Shows items r)
+  each_item : (k : I) → In k items → Exists rows (λ i r. Shows r k)
+
+each_pushed : (P : Row → Type 0) (rows : List Row) (last : Row) → Each rows (λ i r. P r) → P last → Each (rows ++ last ∷ []) (λ i r. P r)
+each_pushed P [] last h p zero r e = subst P (same_Some last r e) p
+each_pushed P [] last h p (suc i) r e = cc
+each_pushed P (x ∷ rows) last h p zero r e = h 0 r e
+each_pushed P (x ∷ rows) last h p (suc i) r e = each_pushed P rows last (λ k y f. h (suc k) y f) p i r e
+
+stands_before : (rows : List Row) (last : Row) (i : ℕ) (r : Row) → slice_get rows i ≡ Some r → slice_get (rows ++ last ∷ []) i ≡ Some r
+stands_before [] last i r e = absurd (cc)
+stands_before (x ∷ rows) last zero r e = e
+stands_before (x ∷ rows) last (suc i) r e = stands_before rows last i r e
+
+exists_before : (P : Row → Type 0) (rows : List Row) (last : Row) → Exists rows (λ i r. P r) → Exists (rows ++ last ∷ []) (λ i r. P r)
+exists_before P rows last x = (x.0, x.1, stands_before rows last x.0 x.1 x.2, x.3)
+
+exists_last : (P : Row → Type 0) (rows : List Row) (last : Row) → P last → Exists (rows ++ last ∷ []) (λ i r. P r)
+exists_last P [] last p = (0, last, refl, p)
+exists_last P (x ∷ rows) last p = let k = exists_last P rows last p in (suc k.0, k.1, k.2, k.3)
+
+seen_on : {I : Type 0} (Speaks : Row → Type 0) (Shows : Row → I → Type 0) (rows : List Row) (r : Row) (older newer : List I)
+    → AreSeen Speaks Shows rows older → Adds Speaks Shows r older newer → AreSeen Speaks Shows (rows ++ r ∷ []) newer
+seen_on {I} Speaks Shows rows r older newer before (Nothing silent e) = record {
+  each_row = each_pushed (λ q. Speaks q → Shown Shows newer q) rows r (λ i q at speaks. let s = before.each_row i q at speaks in (s.0, rw e (s.1), s.2)) (λ speaks. absurd (silent speaks));
+  each_item = λ k i. exists_before (λ q. Shows q k) rows r (before.each_item k (subst (In k) e i));
+}
+seen_on {I} Speaks Shows rows r older newer before (One k shows e) = record {
+  each_row = each_pushed (λ q. Speaks q → Shown Shows newer q) rows r
+      (λ i q at speaks. let s = before.each_row i q at speaks in (s.0, subst (In s.0) (sym e) (inr s.1), s.2)) (λ speaks. (k, subst (In k) (sym e) (inl refl), shows));
+  each_item = λ x i. by x (subst (In x) e i);
+}
+  where
+    by : (x : I) → In x (k ∷ older) → Exists (rows ++ r ∷ []) (λ i q. Shows q x)
+    by x (inl same) = exists_last (λ q. Shows q x) rows r (subst (λ y. Shows r y) (sym same) shows)
+    by x (inr i) = exists_before (λ q. Shows q x) rows r (before.each_item x i)
+
+-- ---- what was made
+
+-- the row has a made line
+abbrev HasLine : Row → Type 0
+HasLine r = r.made ≢ None
+
+-- the row after a deed, and the makes after it
+abbrev AddsMake : Team → ℕ → ℕ → ℕ → Step → Option Process → List Make → Deed → Type 0
+AddsMake team number already life s before older d = Adds HasLine IsMadeLineOf (row_by team number already s before d) older (makes_by life s d.process d.makings older)
+
+-- of an event
+event_adds : (team : Team) (number already life : ℕ) (s : Step) (before : Option Process) (older : List Make) (e : Event) (p : Process)
+    → AgreesOnMade (moment_of team s.h e p).reading (step team s.h e p).out.made (step team s.h e p).makings → AddsMake team number already life s before older (happen team s.h e p)
+event_adds team number already life s before older e p (AgreesOnMade.Nothing line told) =
+    Nothing (λ speaks. speaks (ap (option_map made_printed) line)) (ap (λ ms. makes_on (member_of (step team s.h e p).process.identity) life s ms older) told)
+event_adds team number already life s before older e p (AgreesOnMade.One making line told reading) =
+    One (make_item (member_of (step team s.h e p).process.identity) life s making)
+    (record { who = refl; incarnation = refl; reading = viewed_after team s.h e p ∙ reading; line = ap (option_map made_printed) line })
+    (ap (λ ms. makes_on (member_of (step team s.h e p).process.identity) life s ms older) told)
+
+deed_adds : (team : Team) (past : List Step) (number already life : ℕ) (s : Step) (before : Option Process) (older : List Make) (d : Deed) → Turn team past s d → AddsMake team number already life s before older d
+deed_adds team past number already life s before older d (Turn.Starts mode act comes) = subst (AddsMake team number already life s before older) (sym comes) (Nothing (λ speaks. speaks refl) refl)
+deed_adds team past number already life s before older d (Turn.Stops act comes) = subst (AddsMake team number already life s before older) (sym comes) (Nothing (λ speaks. speaks refl) refl)
+deed_adds team past number already life s before older d (Turn.Looks p runs act comes) = subst (AddsMake team number already life s before older) (sym comes) (Nothing (λ speaks. speaks refl) refl)
+deed_adds team past number already life s before older d (Turn.Happens e p runs brings comes) =
+    subst (AddsMake team number already life s before older) (sym comes) (event_adds team number already life s before older e p (step_agrees team s.h e p))
+
+makes_seen : (team : Team) (past : List Step) → IsReplayable team past → AreSeen HasLine IsMadeLineOf (rows_of team past) (history team past).makes
+makes_seen team [] ok = record { each_row = λ i r e. absurd (cc); each_item = λ k i. absurd i }
+makes_seen team (s ∷ past) ok =
+    seen_on HasLine IsMadeLineOf (rows_of team past) (row_of team past s) (history team past).makes (history team (s ∷ past)).makes (makes_seen team past (earlier team past s ok))
+    (deed_adds team past _ _ (life s.who (s ∷ past)) s ((world team past).process_of s.who) (history team past).makes (deed_in team (world team past) s) (turn team past s ok))
+
+-- ---- who was up
+
+-- the row says up
+abbrev SaysUp : Row → Type 0
+SaysUp r = r.up ≡ true
+
+-- who is up has a reading and a last decision
+up_parts : (team : Team) (vote : Vote) (belief : Belief) (reading : Option ℕ) → is_up team vote belief reading ≡ true → (reading ≢ None) × (last_of belief ≢ None)
+unfolding is_up
+up_parts team vote (Informed (Some d)) (Some t) e = ((λ f. absurd (cc)), (λ f. absurd (cc)))
+up_parts team vote (Informed (Some d)) None e = absurd (cc)
+up_parts team vote (Informed None) reading e = absurd (cc)
+up_parts team vote (Blank followed) reading e = absurd (cc)
+
+abbrev AddsUp : Team → ℕ → ℕ → ℕ → Step → Option Process → List Up → Deed → Type 0
+AddsUp team number already life s before older d = Adds SaysUp IsFlagOf (row_by team number already s before d) older (up_by team life s d.process older)
+
+process_adds : (team : Team) (number already life : ℕ) (s : Step) (before : Option Process) (older : List Up) (d : Deed) (q : Process)
+    → (up : Bool) (reading : Option ℕ) (last : Option Decision) → (view_of team s.h q).up ≡ up → (view_of team s.h q).reading ≡ reading → last_decision q ≡ last
+    → Adds SaysUp IsFlagOf (row_by team number already s before (record d { process = Some q })) older (up_on life s q up reading last older)
+process_adds team number already life s before older d q true (Some t) (Some last) up reading is =
+    One (up_at life s q t last) (record {
+      who = refl;
+      incarnation = refl;
+      group = ap (λ (o : Option Decision). (or_none o).group) (sym is);
+      turn = ap (λ (o : Option Decision). (or_none o).turn) (sym is);
+      reading = reading;
+      flag = up;
+    }) refl
+process_adds team number already life s before older d q true (Some t) None up reading is = absurd ((up_parts team q.vote q.belief (view_of team s.h q).reading up).1 is)
+process_adds team number already life s before older d q true None last up reading is = absurd ((up_parts team q.vote q.belief (view_of team s.h q).reading up).0 reading)
+process_adds team number already life s before older d q false reading last up at is = Nothing (λ says. absurd (let no : false ≡ true = sym up ∙ says in cc)) refl
+
+flag_adds : (team : Team) (number already life : ℕ) (s : Step) (before : Option Process) (older : List Up) (d : Deed) (o : Option Process) → d.process ≡ o → AddsUp team number already life s before older (record d { process = o })
+flag_adds team number already life s before older d None is = Nothing (λ says. absurd (cc)) refl
+flag_adds team number already life s before older d (Some q) is =
+    process_adds team number already life s before older d q (view_of team s.h q).up (view_of team s.h q).reading (last_decision q) refl refl refl
+
+ups_seen : (team : Team) (past : List Step) → AreSeen SaysUp IsFlagOf (rows_of team past) (history team past).ups
+ups_seen team [] = record { each_row = λ i r e. absurd (cc); each_item = λ k i. absurd i }
+ups_seen team (s ∷ past) =
+    let d : Deed = deed_in team (world team past) s in
+    seen_on SaysUp IsFlagOf (rows_of team past) (row_of team past s) (history team past).ups (history team (s ∷ past)).ups (ups_seen team past)
+    (flag_adds team _ _ (life s.who (s ∷ past)) s ((world team past).process_of s.who) (history team past).ups d d.process refl)
+
+-- ---- in every schedule
+
+pub made_lines_seen : (team : Team) (past : List Step) → IsReplayable team past → Each (rows_of team past) (λ i r. r.made ≢ None → (k : Make) × In k (history team past).makes × IsMadeLineOf r k)
+made_lines_seen team past ok = (makes_seen team past ok).each_row
+
+pub makes_printed : (team : Team) (past : List Step) → IsReplayable team past → (k : Make) → In k (history team past).makes → Exists (rows_of team past) (λ i r. IsMadeLineOf r k)
+makes_printed team past ok = (makes_seen team past ok).each_item
+
+pub flags_seen : (team : Team) (past : List Step) → Each (rows_of team past) (λ i r. r.up ≡ true → (k : Up) × In k (history team past).ups × IsFlagOf r k)
+flags_seen team past = (ups_seen team past).each_row
+
+pub ups_printed : (team : Team) (past : List Step) → (k : Up) → In k (history team past).ups → Exists (rows_of team past) (λ i r. IsFlagOf r k)
+ups_printed team past = (ups_seen team past).each_item
+
+pub promise_kept : (team : Team) (past : List Step) (who : ℕ) → IsSound team → IsReplayable team past
+    → IfSome ((world team past).process_of who) (λ (p : Process). 0 < p.vote.promised → (x : Promised) × In x (history team past).promises × IsKeptPromise past who p x)
+promise_kept team past who sound ok = go ((world team past).process_of who) refl
+  where
+    go : (o : Option Process) → (world team past).process_of who ≡ o → IfSome o (λ (p : Process). 0 < p.vote.promised → (x : Promised) × In x (history team past).promises × IsKeptPromise past who p x)
+    go None runs = tt
+    go (Some p) runs = λ some.
+        let x = ((promised_well team past sound ok).running who p runs).latest.promised some in
+        (x.0, x.1, record { by = x.2; present = x.3; number = x.4 })
+
+pub promises_told : (team : Team) (past : List Step) → IsSound team → IsReplayable team past → AllByRecursion (λ (k : Dispatch). TellsGiven (history team past).promises k.datagram.head.from k.datagram.body) (world team past).sent
+promises_told team past sound ok = (promised_well team past sound ok).history.mail

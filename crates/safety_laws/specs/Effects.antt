@@ -1,0 +1,217 @@
+-- What a part of a step may do to its process and to what was written down of the schedule. The laws on groups are proved of these
+-- effects alone; each part of a step is a row of them. An effect says what the rule says, and not who happens to reach it.
+use Rattle.std.specs.Prelude.{ℕ, ◌≤◌, ◌<◌, ◌≡◌, true, false, List, [], ◌∷◌, ◌++◌, map, Option, Some, None, Ok}
+use Rattle.std.specs.List.{AllByRecursion}
+use Rattle.std.specs.Option.{option_map}
+use Rattle.tw_num.specs.declared.moment.Moment.{Moment}
+use Rattle.tw_types.specs.declared.team.Team.{Team}
+use Rattle.tw_types.specs.declared.ballot.Ballot.{Ballot}
+use Rattle.tw_types.specs.declared.datagram.Head.{Head}
+use Rattle.tw_types.specs.declared.datagram.Body.{Body}
+use Rattle.tw_types.specs.declared.datagram.Body.TheVariants as bodies
+use Rattle.tw_types.specs.declared.datagram.Datagram.{Datagram}
+use Rattle.tw_types.specs.declared.message.Decision.{Decision}
+use Rattle.tw_types.specs.declared.step.Step.{Step}
+use Rattle.tw_types.specs.Votes.{Promise, Making}
+use Rattle.tw_types.specs.Beliefs.{is_informed, view_decision, log_length}
+use Rattle.tw_types.specs.Ballots.{begun, joined, wants, is_complete}
+use Rattle.tw_types.specs.Decisions.{or_none, is_older, has_seat}
+use Rattle.tw_types.specs.Flag.{is_up}
+use Rattle.tw_types.specs.Groups.{group_made, group_making, next_making}
+use Rattle.tw_types.specs.Promises.{is_quarantined, is_in_window}
+use Rattle.tw_types.specs.Slots.{owner}
+use Rattle.tw_types.specs.Taking.{taken}
+use Rattle.tw_types.specs.Turns.{is_turn, next_decision}
+use Rattle.tw_types.specs.Process.{Process}
+use Rattle.tw_machine.specs.Dispatches.{Dispatch, sent_at}
+use Rattle.tw_machine.specs.History.{Promised, Up, promise_item, make_item, up_at, promises_on, makes_on, makes_by, up_by, history}
+use Rattle.tw_machine.specs.History as items
+use Rattle.tw_machine.specs.Run.{Run}
+use Rattle.tw_machine.specs.World.{Deed, world}
+use Rattle.tw_machine.specs.Standing.{member_of, last_decision, report_by}
+
+-- what was written down of a schedule: its history, the newest item first, and what was sent, in its order
+pub record Written : Type 0 where
+  pub promises : List Promised
+  pub makes : List items.Make
+  pub ups : List Up
+  pub sent : List Dispatch
+
+-- what was written down of a schedule after all its steps
+abbrev pub written : Team → List Step → Written
+written team past = record {
+  promises = (history team past).promises;
+  makes = (history team past).makes;
+  ups = (history team past).ups;
+  sent = (world team past).sent;
+}
+
+-- the process of a step in the middle of it, and what is written down so far
+pub record State : Type 0 where
+  pub process : Process
+  pub written : Written
+
+-- the step: its team, itself, the life of its process, what the process's clock tells, and the datagram that it receives, if any
+pub record Here : Type 0 where
+  pub team : Team
+  pub step : Step
+  pub life : ℕ
+  pub now : Moment
+  pub mail : Option Datagram
+
+-- where a run of the step's event stands, after what was written down before the step
+abbrev pub state_of : Here → Written → Run → State
+state_of here before r = record {
+  process = r.process;
+  written = record {
+    promises = promises_on here.life here.step r.promises before.promises;
+    makes = makes_on (member_of r.process.identity) here.life here.step r.makings before.makes;
+    ups = before.ups;
+    sent = before.sent ++ map (sent_at here.step.t) r.out.sends;
+  };
+}
+
+-- what is written down after a step that comes to this
+abbrev pub written_after : Team → ℕ → Step → Deed → Written → Written
+written_after team life s d before = record {
+  promises = promises_on life s d.promises before.promises;
+  makes = makes_by life s d.process d.makings before.makes;
+  ups = up_by team life s d.process before.ups;
+  sent = before.sent ++ map (sent_at s.t) d.out.sends;
+}
+
+-- where a run stands once its process's flag was looked at
+abbrev pub flagged : Here → Written → Run → State
+flagged here before r = record {
+  process = r.process;
+  written = record (state_of here before r).written { ups = up_by here.team here.life here.step (Some r.process) before.ups };
+}
+
+-- a greatest reading that doesn't fall; there may be none before
+abbrev pub NotBelow : Option ℕ → Option ℕ → Type 0
+NotBelow None after = Unit {0}
+NotBelow (Some before) None = ⊥
+NotBelow (Some before) (Some after) = before ≤ after
+
+-- a datagram's body says what its sender has: its newest promise, or its last decision
+abbrev pub Says : Here → State → Body → Type 0
+Says here x (bodies.Promise number report decision) =
+    (older : List Promised) × (x.written.promises ≡ promise_item here.life here.step (record { number = number; report = report; decision = decision }) ∷ older)
+Says here x (bodies.Decision d) = last_decision x.process ≡ Some d
+Says here x (bodies.Update kept) = ⊥
+Says here x (bodies.NoDecision number group turn skip reports best) = ⊥
+Says here x (bodies.Election number why) = Unit {0}
+Says here x (bodies.Ask want) = ⊥
+Says here x (bodies.State group position total offset bytes) = ⊥
+Says here x (bodies.Sync ready) = Unit {0}
+
+-- a datagram of the process, in its present life
+pub record IsToldBy (here : Here) (x : State) (d : ℕ × Datagram) : Type 0 where
+  pub from : d.1.head.from ≡ x.process.identity.who
+  pub incarnation : d.1.head.incarnation ≡ x.process.identity.incarnation
+  pub says : Says here x d.1.body
+
+-- Nothing of a vote, a ballot or a belief changes, and nothing is promised or made. The clock may have been read, and datagrams sent.
+pub record Keeps (here : Here) (x y : State) : Type 0 where
+  pub identity : y.process.identity ≡ x.process.identity
+  pub vote : y.process.vote ≡ x.process.vote
+  pub ballot : y.process.ballot ≡ x.process.ballot
+  pub belief : y.process.belief ≡ x.process.belief
+  pub base : y.process.log.base ≡ x.process.log.base
+  pub length : log_length y.process.log ≡ log_length x.process.log
+  pub greatest : NotBelow x.process.timing.clock.greatest y.process.timing.clock.greatest
+  pub promises : y.written.promises ≡ x.written.promises
+  pub makes : y.written.makes ≡ x.written.makes
+  pub ups : y.written.ups ≡ x.written.ups
+  pub new : List (ℕ × Datagram)
+  pub sent : y.written.sent ≡ x.written.sent ++ map (sent_at here.step.t) new
+  pub told : AllByRecursion (IsToldBy here y) new
+
+-- A promise at a reading, which passes all that is asked of a promise. It tells what the process reports of itself.
+pub record Promises (here : Here) (x y : State) : Type 0 where
+  pub given : Promise
+  pub t : ℕ
+  pub reading : here.now.reading ≡ Some t
+  pub read : x.process.timing.clock.greatest ≡ Some t
+  pub not_quarantined : is_quarantined here.team x.process.identity here.now.h ≡ false
+  pub in_window : is_in_window here.team given.number t ≡ true
+  pub above : x.process.vote.promised < given.number
+  pub report : given.report ≡ report_by x.process t
+  pub decision : given.decision ≡ last_decision x.process
+  pub process : y.process ≡ record (x.process) { vote = record (x.process.vote) { promised = given.number } }
+  pub written : y.written ≡ record (x.written) { promises = promise_item here.life here.step given ∷ x.written.promises }
+
+-- why a ballot changes: it begins directly behind its owner's promise, a received promise is added, or it is dropped
+pub data BallotReason (here : Here) (x y : State) : Type 0 where
+  Begins : (given : Promise) → (older : List Promised) → x.written.promises ≡ promise_item here.life here.step given ∷ older
+      → x.process.vote.promised ≡ given.number → owner here.team.n given.number ≡ x.process.identity.who → is_informed x.process.belief ≡ true
+      → given.report.member ≡ member_of x.process.identity → given.decision ≡ last_decision x.process
+      → y.process.ballot ≡ Some (begun given) → BallotReason here x y
+  Adds : (given : Promise) → (head : Head) → here.mail ≡ Some (record { head = head; body = bodies.Promise given.number given.report given.decision })
+      → wants given x.process.ballot ≡ true → y.process.ballot ≡ option_map (joined given) x.process.ballot → BallotReason here x y
+  Drops : y.process.ballot ≡ None → BallotReason here x y
+
+pub record Ballots (here : Here) (x y : State) : Type 0 where
+  pub process : y.process ≡ record (x.process) { ballot = y.process.ballot }
+  pub written : y.written ≡ x.written
+  pub reason : BallotReason here x y
+
+-- A received decision is taken: it is above what the process took or followed, names it, and is of the group that it promised.
+pub record Takes (here : Here) (x y : State) : Type 0 where
+  pub taken_decision : Decision
+  pub head : Head
+  pub received : here.mail ≡ Some (record { head = head; body = bodies.Decision taken_decision })
+  pub newer : is_older (or_none (view_decision x.process.belief)).group (or_none (view_decision x.process.belief)).turn taken_decision.group taken_decision.turn ≡ true
+  pub seat : has_seat (member_of x.process.identity) taken_decision ≡ true
+  pub promised : taken_decision.group ≡ x.process.vote.promised
+  pub process : y.process ≡ record (x.process) { belief = taken taken_decision }
+  pub written : y.written ≡ x.written
+
+-- why a decision is made: it is the process's turn, or its ballot is complete, which the group takes away
+pub data MakeReason (here : Here) (making : Making) (t : ℕ) (x y : State) : Type 0 where
+  Next : (last : Decision) → last_decision x.process ≡ Some last → is_turn here.team (member_of x.process.identity) (Some last) x.process.vote.promised t ≡ true
+      → making ≡ next_making last (next_decision [] last t x.process.identity.who) → y.process.ballot ≡ x.process.ballot → MakeReason here making t x y
+  Group : (ballot : Ballot) → x.process.ballot ≡ Some ballot → is_complete here.team t ballot ≡ true
+      → group_made here.team ballot (member_of x.process.identity) t ≡ Ok making.decision → making ≡ group_making ballot making.decision
+      → y.process.ballot ≡ None → MakeReason here making t x y
+
+-- A decision of the promised group is made at a reading, supported and taken by its maker.
+pub record Makes (here : Here) (x y : State) : Type 0 where
+  pub making : Making
+  pub t : ℕ
+  pub reading : here.now.reading ≡ Some t
+  pub read : x.process.timing.clock.greatest ≡ Some t
+  pub made : making.decision.made ≡ t
+  pub group : making.decision.group ≡ x.process.vote.promised
+  pub reason : MakeReason here making t x y
+  pub process : y.process ≡ record (x.process) {
+    vote = record (x.process.vote) { support = Some t };
+    belief = taken making.decision;
+    ballot = y.process.ballot;
+  }
+  pub written : y.written ≡ record (x.written) { makes = make_item (member_of x.process.identity) here.life here.step making ∷ x.written.makes }
+
+-- A process is up at its reading, after its step.
+pub record Raises (here : Here) (x y : State) : Type 0 where
+  pub t : ℕ
+  pub last : Decision
+  pub reading : here.now.reading ≡ Some t
+  pub read : x.process.timing.clock.greatest ≡ Some t
+  pub last_is : last_decision x.process ≡ Some last
+  pub up : is_up here.team x.process.vote x.process.belief (Some t) ≡ true
+  pub process : y.process ≡ x.process
+  pub written : y.written ≡ record (x.written) { ups = up_at here.life here.step x.process t last ∷ x.written.ups }
+
+-- one effect
+pub data Change (here : Here) (x y : State) : Type 0 where
+  Keep : Keeps here x y → Change here x y
+  Give : Promises here x y → Change here x y
+  Hold : Ballots here x y → Change here x y
+  Take : Takes here x y → Change here x y
+  Make : Makes here x y → Change here x y
+  Raise : Raises here x y → Change here x y
+
+-- a row of them
+pub data Changes (here : Here) (x : State) : State → Type 0 where
+  Done : Changes here x x
+  Then : {y z : State} → Changes here x y → Change here y z → Changes here x z

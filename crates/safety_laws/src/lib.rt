@@ -1,0 +1,15 @@
+//! The laws of every admissible schedule, over crashes and returns. Each is the contract of a function that does nothing.
+//! Nothing here runs.
+#![tactic(auto)]
+
+mod clocks;
+mod history;
+mod laws;
+
+pub use clocks::{bounds_cover_every_delay, clocks_hold_team_time};
+pub use history::history_is_seen;
+pub use laws::{
+    decisions_are_promised, leases_outlast_older_groups, lost_supports_are_older,
+    majorities_bind_later_groups, promises_ascend, reports_are_of_promises, rows_are_safe,
+    supports_are_of_decisions,
+};

@@ -19,7 +19,7 @@ use Rattle.safety_laws.proofs.Grown.{Grown, Quiet, NewPromise, NewMake, NewUp, g
 use Rattle.safety_laws.proofs.Lists.{of_each, each_from}
 use Rattle.safety_laws.proofs.NotAhead.{near_now}
 use Rattle.safety_laws.proofs.Readings.{since}
-use Rattle.safety_laws.proofs.Stack.{Stepping, RulesOver}
+use Rattle.safety_laws.proofs.Stack.{Stepping, RulesOver, history_rules}
 use Rattle.safety_laws.proofs.Waits.{waited, apart, numbers_apart}
 
 -- what the ascent of promises rests on
@@ -74,13 +74,7 @@ above team past s here x y at c k z i mine = go (of_each (λ (v : Promised). v.w
         record { number = higher; life = omega arith; incarnation = omega (arith, member); reading = λ same. absurd (omega arith) }
 
 pub ascend_rules : (team : Team) → RulesOver team (before_ascent team) ascend
-ascend_rules team = record {
-  nothing = tt;
-  waits = λ past s w sound ok before k. k;
-  remains = λ past s w who p sound ok same before h own k. tt;
-  begins = λ past s w mode sound ok act more before k. tt;
-  changes = λ past s here x y at mailed change before after k. record { history = go past s here x y at before (grown here x y change) k.history; own = tt; others = λ q p other runs. tt };
-}
+ascend_rules team = history_rules team (before_ascent team) (λ w. Ascends w.promises) tt (λ past s here x y at change before after k. go past s here x y at before (grown here x y change) k)
   where
     go : (past : List Step) (s : Step) (here : Here) (x y : State) → Stepping team past s here → Holds (before_ascent team) (s ∷ past) (world team past) s.who x → Grown here x y → Ascends x.written.promises → Ascends y.written.promises
     go past s here x y at before (Quiet promises makes ups) k = rw promises k

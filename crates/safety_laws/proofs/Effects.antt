@@ -64,7 +64,7 @@ greatest_grows (Some x) (Some y) None low high = absurd high
 greatest_grows (Some x) (Some y) (Some z) low high = omega arith
 
 -- tests that all pass
-none_present : (rs : List Refusal) → first_refusal rs ≡ None → AllByRecursion (λ (r : Refusal). r.present ≡ false) rs
+pub none_present : (rs : List Refusal) → first_refusal rs ≡ None → AllByRecursion (λ (r : Refusal). r.present ≡ false) rs
 none_present [] none = tt
 none_present (r ∷ rs) none = go r.present refl none (none_present rs)
   where

@@ -21,7 +21,7 @@ use Rattle.safety_laws.proofs.Once.{before_once, once_rules}
 use Rattle.safety_laws.proofs.Precede.{before_precede, precede_rules}
 use Rattle.safety_laws.proofs.Promises.{promises_rules}
 use Rattle.safety_laws.proofs.Quorums.{Agree, own_names}
-use Rattle.safety_laws.proofs.Stack.{IsSameLaw, LawRules, Kept, stack, law_holds, lifted, lifted_second, renamed}
+use Rattle.safety_laws.proofs.Stack.{IsSameLaw, LawRules, Kept, stack, law_holds, rests_on, renamed}
 use Rattle.safety_laws.proofs.Still.{still_rules}
 use Rattle.safety_laws.proofs.Supports.{all_supported}
 use Rattle.safety_laws.proofs.Ups.{ups_rules}
@@ -42,7 +42,8 @@ memory_too : (team : Team) → LawRules team (with_memory team)
 memory_too team = stack team (of_promises team) memory (promises_rules team) (memory_rules team)
 
 made_too : (team : Team) → LawRules team (before_once team)
-made_too team = stack team (with_memory team) (made team) (memory_too team) (lifted team (of_promises team) memory (made team) (made_rules team))
+made_too team = stack team (with_memory team) (made team) (memory_too team)
+    (rests_on team (of_promises team) (with_memory team) (made team) (record { history = λ steps w k. k.0; running = λ steps w who p k. k.0 }) (made_rules team))
 
 once_too : (team : Team) → LawRules team (before_precede team)
 once_too team = stack team (before_once team) once (made_too team) (once_rules team)
@@ -52,11 +53,11 @@ precede_too team = stack team (before_precede team) (precede team) (once_too tea
 
 still_too : (team : Team) → LawRules team (with_still team)
 still_too team = stack team (with_precede team) still (precede_too team)
-    (lifted team (before_precede team) (precede team) still (lifted team (before_once team) once still (lifted team (with_memory team) (made team) still (lifted team (of_promises team) memory still (still_rules team)))))
+    (rests_on team (of_promises team) (with_precede team) still (record { history = λ steps w k. k.0.0.0.0; running = λ steps w who p k. k.0.0.0.0 }) (still_rules team))
 
 all_too : (team : Team) → LawRules team (with_all team)
 all_too team = stack team (with_still team) (ups team) (still_too team)
-    (lifted team (with_precede team) still (ups team) (lifted team (before_precede team) (precede team) (ups team) (lifted team (before_once team) once (ups team) (lifted_second team (with_memory team) (made team) (ups team) (ups_rules team)))))
+    (rests_on team (made team) (with_still team) (ups team) (record { history = λ steps w k. k.0.0.0.1; running = λ steps w who p k. k.0.0.0.1 }) (ups_rules team))
 
 same_law : (team : Team) → IsSameLaw (with_all team) (of_groups team)
 same_law team = record {

@@ -46,3 +46,4 @@ pub mod Ups
 pub mod GroupLaws
 pub mod Safe
 pub mod Under
+mod Worked

@@ -13,7 +13,7 @@ use Rattle.safety_laws.specs.Effects.{State, Here, Says, IsToldBy, Change}
 use Rattle.safety_laws.specs.Mail.{TellsGiven, mail}
 use Rattle.safety_laws.specs.Names.{names}
 use Rattle.safety_laws.proofs.Lists.{each_weaker}
-use Rattle.safety_laws.proofs.Stack.{RulesOver}
+use Rattle.safety_laws.proofs.Stack.{RulesOver, history_rules}
 
 given_still : (new : Promised) (promises : List Promised) (from : ℕ) (body : Body) → TellsGiven promises from body → TellsGiven (new ∷ promises) from body
 given_still new promises from (bodies.Promise number report decision) k = (k.0, inr k.1, k.2, k.3)
@@ -51,14 +51,5 @@ changes here x y me (Change.Make c) k = rw c.written k
 changes here x y me (Change.Raise c) k = rw c.written k
 
 pub mail_rules : (team : Team) → RulesOver team names mail
-mail_rules team = record {
-  nothing = tt;
-  waits = λ past s w sound ok before k. k;
-  remains = λ past s w who p sound ok same before h own k. tt;
-  begins = λ past s w mode sound ok act more before k. tt;
-  changes = λ past s here x y at mailed change before after k. record {
-    history = changes here x y (after.own.is ∙ sym (ap (λ (e : Step). e.who) at.same_step)) change k.history;
-    own = tt;
-    others = λ q p other runs. tt;
-  };
-}
+mail_rules team = history_rules team names (λ w. AllByRecursion (λ (k : Dispatch). TellsGiven w.promises k.datagram.head.from k.datagram.body) w.sent) tt
+    (λ past s here x y at change before after k. changes here x y (after.own.is ∙ sym (ap (λ (e : Step). e.who) at.same_step)) change k)

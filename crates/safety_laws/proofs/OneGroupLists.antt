@@ -11,7 +11,8 @@ use Rattle.safety_laws.specs.Made.{members}
 use Rattle.safety_laws.specs.Once.{AllOnce}
 use Rattle.safety_laws.specs.Ups.{WasUp}
 use Rattle.safety_laws.proofs.Counting.{IsMajority}
-use Rattle.safety_laws.proofs.Groups.{HasFirst, has_first, are_majority, seat_in, same_make}
+use Rattle.safety_laws.proofs.Groups.{HasFirst, has_first, are_majority, seat_in}
+use Rattle.safety_laws.proofs.Turns.{once_same}
 use Rattle.safety_laws.proofs.Leases.{up_outlasts}
 use Rattle.safety_laws.proofs.Quorums.{Agree}
 
@@ -71,7 +72,7 @@ module _ (team : Team) (promises : List Promised) (makes : List Make) (k : Agree
       let a = own_started u was in
       let b = own_started v was' in
       let group = one_group u v was was' same in
-      let one : b.0 ≡ a.0 = same_make makes once b.0 a.0 b.1.among a.1.among (b.1.group ∙ sym group ∙ sym a.1.group, b.1.turn ∙ sym a.1.turn) in
+      let one : b.0 ≡ a.0 = once_same makes once b.0 a.0 b.1.among a.1.among (b.1.group ∙ sym group ∙ sym a.1.group, b.1.turn ∙ sym a.1.turn) in
       (a.0, a.1, subst (IsFirstOf team makes v) one b.1)
 
   -- and their last decisions list the same members

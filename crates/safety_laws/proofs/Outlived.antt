@@ -17,7 +17,7 @@ use Rattle.safety_laws.specs.Outlived.{OutlivesAll, outlived}
 use Rattle.safety_laws.proofs.Ascend.{far_below}
 use Rattle.safety_laws.proofs.Grown.{Grown, Quiet, NewPromise, NewMake, NewUp, grown}
 use Rattle.safety_laws.proofs.Lists.{of_each, each_from}
-use Rattle.safety_laws.proofs.Stack.{Stepping, RulesOver}
+use Rattle.safety_laws.proofs.Stack.{Stepping, RulesOver, history_rules}
 
 -- a new promise against each make
 promise_outlives : (team : Team) (past : List Step) (s : Step) (here : Here) (x y : State) → Stepping team past s here → (c : Promises here x y) → Holds (Both names (not_ahead team)) (s ∷ past) (world team past) s.who x → OutlivesAll team x.written.makes (promise_item here.life here.step c.given)
@@ -53,13 +53,7 @@ make_outlived team past s here x y at c named all =
         omega arith
 
 pub outlived_rules : (team : Team) → RulesOver team (Both names (not_ahead team)) (outlived team)
-outlived_rules team = record {
-  nothing = tt;
-  waits = λ past s w sound ok before k. k;
-  remains = λ past s w who p sound ok same before h own k. tt;
-  begins = λ past s w mode sound ok act more before k. tt;
-  changes = λ past s here x y at mailed change before after k. record { history = go past s here x y at before (grown here x y change) k.history; own = tt; others = λ q p other runs. tt };
-}
+outlived_rules team = history_rules team (Both names (not_ahead team)) (λ w. AllByRecursion (OutlivesAll team w.makes) w.promises) tt (λ past s here x y at change before after k. go past s here x y at before (grown here x y change) k)
   where
     go : (past : List Step) (s : Step) (here : Here) (x y : State) → Stepping team past s here → Holds (Both names (not_ahead team)) (s ∷ past) (world team past) s.who x → Grown here x y
         → AllByRecursion (OutlivesAll team x.written.makes) x.written.promises → AllByRecursion (OutlivesAll team y.written.makes) y.written.promises

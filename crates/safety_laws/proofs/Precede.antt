@@ -24,7 +24,7 @@ use Rattle.safety_laws.specs.Promises.{OfPromises, OfPromiser}
 use Rattle.safety_laws.proofs.Grown.{Grown, Quiet, NewPromise, NewMake, NewUp, grown}
 use Rattle.safety_laws.proofs.Lists.{of_each, each_from}
 use Rattle.safety_laws.proofs.Once.{before_once, no_greater}
-use Rattle.safety_laws.proofs.Stack.{Stepping, RulesOver}
+use Rattle.safety_laws.proofs.Stack.{Stepping, RulesOver, history_rules}
 use Rattle.safety_laws.proofs.Turns.{all_positive}
 
 -- what the law rests on
@@ -96,10 +96,4 @@ module _ (team : Team) (past : List Step) (s : Step) (here : Here) (x y : State)
       go (NewUp c promises makes ups) = rw promises (subst (λ ms. AllByRecursion (PrecedeIt team ms) x.written.promises) (sym makes) all)
 
 pub precede_rules : (team : Team) → RulesOver team (before_precede team) (precede team)
-precede_rules team = record {
-  nothing = tt;
-  waits = λ past s w sound ok before k. k;
-  remains = λ past s w who p sound ok same before h own k. tt;
-  begins = λ past s w mode sound ok act more before k. tt;
-  changes = λ past s here x y at mailed change before after k. record { history = precede_changes team past s here x y at change before after k.history; own = tt; others = λ q p other runs. tt };
-}
+precede_rules team = history_rules team (before_precede team) (λ w. AllByRecursion (PrecedeIt team w.makes) w.promises) tt (λ past s here x y at change before after k. precede_changes team past s here x y at change before after k)

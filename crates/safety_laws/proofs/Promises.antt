@@ -21,7 +21,7 @@ use Rattle.safety_laws.proofs.Outlived.{outlived_rules}
 use Rattle.safety_laws.proofs.Stack.{LawRules, Kept, stack, law_holds}
 use Rattle.safety_laws.proofs.Windows.{windows_rules}
 use Rattle.safety_laws.specs.Promises.{of_promises}
-use Rattle.safety_laws.proofs.Stack.{IsSameLaw, lifted, renamed}
+use Rattle.safety_laws.proofs.Stack.{IsSameLaw, rests_on, renamed}
 
 abbrev with_windows : Team → Law
 with_windows team = Both (Both names (not_ahead team)) (windows team)
@@ -43,19 +43,18 @@ windows_too team = stack team (Both names (not_ahead team)) (windows team) (read
 
 latest_too : (team : Team) → LawRules team (before_ascent team)
 latest_too team = stack team (with_windows team) latest (windows_too team)
-    (lifted team (Both names (not_ahead team)) (windows team) latest (lifted team names (not_ahead team) latest (latest_rules team)))
+    (rests_on team names (with_windows team) latest (record { history = λ steps w k. k.0.0; running = λ steps w who p k. k.0.0 }) (latest_rules team))
 
 ascent_too : (team : Team) → LawRules team (with_ascent team)
 ascent_too team = stack team (before_ascent team) ascend (latest_too team) (ascend_rules team)
 
 mail_too : (team : Team) → LawRules team (with_mail team)
 mail_too team = stack team (with_ascent team) mail (ascent_too team)
-    (lifted team (before_ascent team) ascend mail (lifted team (with_windows team) latest mail (lifted team (Both names (not_ahead team)) (windows team) mail (lifted team names (not_ahead team) mail (mail_rules team)))))
+    (rests_on team names (with_ascent team) mail (record { history = λ steps w k. k.0.0.0.0; running = λ steps w who p k. k.0.0.0.0 }) (mail_rules team))
 
 all_too : (team : Team) → LawRules team (with_all team)
 all_too team = stack team (with_mail team) (outlived team) (mail_too team)
-    (lifted team (with_ascent team) mail (outlived team) (lifted team (before_ascent team) ascend (outlived team) (lifted team (with_windows team) latest (outlived team)
-    (lifted team (Both names (not_ahead team)) (windows team) (outlived team) (outlived_rules team)))))
+    (rests_on team (Both names (not_ahead team)) (with_mail team) (outlived team) (record { history = λ steps w k. k.0.0.0.0; running = λ steps w who p k. k.0.0.0.0 }) (outlived_rules team))
 
 same_law : (team : Team) → IsSameLaw (with_all team) (of_promises team)
 same_law team = record {

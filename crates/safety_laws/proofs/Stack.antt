@@ -325,15 +325,42 @@ pub law_holds : (team : Team) (law : Law) → LawRules team law → (past : List
 law_holds team law rules [] sound ok = record { history = rules.nothing; running = λ who p e. absurd (cc) }
 law_holds team law rules (s ∷ past) sound ok = advanced team law rules past s sound ok (law_holds team law rules past sound (earlier team past s ok))
 
--- a law that rests on a part of what it may rest on
-pub lifted : (team : Team) (a b law : Law) → RulesOver team a law → RulesOver team (Both a b) law
-lifted team a b law rules = record {
+-- an earlier law that another one has in it
+pub record IsPartOf (part whole : Law) : Type 0 where
+  pub history : (steps : List Step) (w : Written) → whole.History steps w → part.History steps w
+  pub running : (steps : List Step) (w : Written) (who : ℕ) (p : Process) → whole.Running steps w who p → part.Running steps w who p
+
+pub part_holds : (part whole : Law) (steps : List Step) (before : World) (who : ℕ) (x : State) → IsPartOf part whole → Holds whole steps before who x → Holds part steps before who x
+part_holds part whole steps before who x is k = record {
+  history = is.history steps x.written k.history;
+  own = is.running steps x.written who x.process k.own;
+  others = λ q p other runs. is.running steps x.written q p (k.others q p other runs);
+}
+
+-- A law that rests on a part of what it may rest on.
+pub rests_on : (team : Team) (part whole law : Law) → IsPartOf part whole → RulesOver team part law → RulesOver team whole law
+rests_on team part whole law is rules = record {
   nothing = rules.nothing;
-  waits = λ past s w sound ok before k. rules.waits past s w sound ok before.0 k;
-  remains = λ past s w who p sound ok same before h own k. rules.remains past s w who p sound ok same before.0 h own.0 k;
-  begins = λ past s w mode sound ok act more before k. rules.begins past s w mode sound ok act more before.0 k;
+  waits = λ past s w sound ok before k. rules.waits past s w sound ok (is.history past w before) k;
+  remains = λ past s w who p sound ok same before h own k. rules.remains past s w who p sound ok same (is.history past w before) h (is.running past w who p own) k;
+  begins = λ past s w mode sound ok act more before k. rules.begins past s w mode sound ok act more (is.history past w before) k;
   changes = λ past s here x y at mailed change before after k.
-      rules.changes past s here x y at mailed change (first_of a b (s ∷ past) (world team past) s.who x before) (first_of a b (s ∷ past) (world team past) s.who y after) k;
+      rules.changes past s here x y at mailed change (part_holds part whole (s ∷ past) (world team past) s.who x is before) (part_holds part whole (s ∷ past) (world team past) s.who y is after) k;
+}
+
+-- a law on what was written down alone
+abbrev pub OfHistory : (Written → Type 0) → Law
+OfHistory H = record { History = λ steps w. H w; Running = λ steps w who p. Unit {0} }
+
+pub history_rules : (team : Team) (earlier : Law) (H : Written → Type 0) → H nothing_written
+    → ((past : List Step) (s : Step) (here : Here) (x y : State) → Stepping team past s here → Change here x y → Holds earlier (s ∷ past) (world team past) s.who x → Holds earlier (s ∷ past) (world team past) s.who y → H x.written → H y.written)
+    → RulesOver team earlier (OfHistory H)
+history_rules team earlier H none changes = record {
+  nothing = none;
+  waits = λ past s w sound ok before k. k;
+  remains = λ past s w who p sound ok same before h own k. tt;
+  begins = λ past s w mode sound ok act more before k. tt;
+  changes = λ past s here x y at mailed change before after k. record { history = changes past s here x y at change before after k.history; own = tt; others = λ q p other runs. tt };
 }
 
 -- the same law with its parts under other names
@@ -362,15 +389,4 @@ renamed team a b same rules = record {
   changes = λ past s here x y at mailed change none nobody k.
       renamed_holds a b (s ∷ past) (world team past) s.who y same
       (rules.changes past s here x y at mailed change none nobody (renamed_holds b a (s ∷ past) (world team past) s.who x (renamed_back a b same) k));
-}
-
--- and one that rests on the later part
-pub lifted_second : (team : Team) (a b law : Law) → RulesOver team b law → RulesOver team (Both a b) law
-lifted_second team a b law rules = record {
-  nothing = rules.nothing;
-  waits = λ past s w sound ok before k. rules.waits past s w sound ok before.1 k;
-  remains = λ past s w who p sound ok same before h own k. rules.remains past s w who p sound ok same before.1 h own.1 k;
-  begins = λ past s w mode sound ok act more before k. rules.begins past s w mode sound ok act more before.1 k;
-  changes = λ past s here x y at mailed change before after k.
-      rules.changes past s here x y at mailed change (second_of a b (s ∷ past) (world team past) s.who x before) (second_of a b (s ∷ past) (world team past) s.who y after) k;
 }

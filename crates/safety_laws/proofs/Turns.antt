@@ -1,5 +1,5 @@
 -- What holds of each first decision, and passes from a decision to the next one, holds of each make.
-use Rattle.std.proofs.Common.{◌≡◌, refl, sym, ap, subst, ◌∙◌, inl, inr, ℕ, ◌≤◌, ◌==◌, Bool, true, false, cond, nat_eq, List, [], ◌∷◌, map, Some, arith}
+use Rattle.std.proofs.Common.{◌≡◌, refl, sym, ap, subst, ◌∙◌, inl, inr, ℕ, ◌≤◌, List, [], ◌∷◌, map, arith}
 use Rattle.std.specs.List.{AllByRecursion}
 use Rattle.tw_types.specs.declared.team.Team.{Team}
 use Rattle.tw_types.specs.declared.message.Decision.{Decision}
@@ -13,6 +13,7 @@ use Rattle.safety_laws.specs.Laws.{In}
 use Rattle.safety_laws.specs.Made.{WasMade, WasReported, Follows, ComesFrom, Arises, AsFirst, AsNext, AllArise, IsBeginOf, members}
 use Rattle.safety_laws.specs.Once.{SamePair, AllOnce}
 use Rattle.safety_laws.proofs.Lists.{of_each, each_weaker}
+use Rattle.safety_laws.proofs.NextDecisions.{supported_is}
 
 pub along_turns : (team : Team) (promises : List Promised) (P : Make → Type 0) → ((older : List Make) (m : Make) → m.making.decision.turn ≡ 0 → ComesFrom team promises older m → P m)
     → ((older : List Make) (m b : Make) (last : Decision) → Follows older m last → In b older → b.making.decision ≡ last → P b → P m)
@@ -33,16 +34,9 @@ all_positive team promises = along_turns team promises (λ (m : Make). 1 ≤ m.m
 abbrev pub IsPromisedSeat : List Promised → ℕ → Seat → Type 0
 IsPromisedSeat promises group seat = (x : Promised) × In x promises × (x.promise.number ≡ group) × (x.promise.report.member ≡ seat.member)
 
-supported_member : (who : ℕ) (support : Support) (seat : Seat) → (supported who support seat).member ≡ seat.member
-supported_member who support seat = go (nat_eq seat.member.who who)
-  where
-    go : (b : Bool) → (cond b (record seat { support = Some support }) seat).member ≡ seat.member
-    go true = refl
-    go false = refl
-
 pub of_supported : (P : Member → Type 0) (who : ℕ) (support : Support) (seats : List Seat) → AllByRecursion (λ (s : Seat). P s.member) seats → AllByRecursion (λ (s : Seat). P s.member) (map (supported who support) seats)
 of_supported P who support [] all = tt
-of_supported P who support (s ∷ seats) all = (subst P (sym (supported_member who support s)) all.0, of_supported P who support seats all.1)
+of_supported P who support (s ∷ seats) all = (subst P (sym (supported_is who support s)) all.0, of_supported P who support seats all.1)
 
 pub seats_promised : (team : Team) (promises : List Promised) (makes : List Make) → AllArise team promises makes → AllByRecursion (λ (m : Make). AllByRecursion (IsPromisedSeat promises m.making.decision.group) m.making.decision.seats.items) makes
 seats_promised team promises = along_turns team promises (λ (m : Make). AllByRecursion (IsPromisedSeat promises m.making.decision.group) m.making.decision.seats.items) first next
@@ -68,12 +62,7 @@ once_same (m ∷ older) once a b (inr i) (inr j) same = once_same older once.1 a
 
 supported_members : (who : ℕ) (support : Support) (seats : List Seat) → map (λ (s : Seat). s.member) (map (supported who support) seats) ≡ map (λ (s : Seat). s.member) seats
 supported_members who support [] = refl
-supported_members who support (s ∷ seats) = go (s.member.who == who) (supported_members who support seats)
-  where
-    go : (b : Bool) → map (λ (s : Seat). s.member) (map (supported who support) seats) ≡ map (λ (s : Seat). s.member) seats
-        → (cond b (record s { support = Some support }) s).member ∷ map (λ (s : Seat). s.member) (map (supported who support) seats) ≡ s.member ∷ map (λ (s : Seat). s.member) seats
-    go true rest = ap (λ ms. s.member ∷ ms) rest
-    go false rest = ap (λ ms. s.member ∷ ms) rest
+supported_members who support (s ∷ seats) = let one = supported_is who support s in let more = supported_members who support seats in cc
 
 follower_members : (older : List Make) (m : Make) (last : Decision) → Follows older m last → members m.making.decision ≡ members last
 follower_members older m last k = ap (λ (seats : List Seat). map (λ (s : Seat). s.member) seats) k.seats ∙ supported_members _ _ last.seats.items

@@ -1,6 +1,5 @@
 -- A decision that a process has after a step, and hadn't before it, is of the group that it had promised last before the step.
 use Rattle.std.proofs.Common.{◌≡◌, ◌≢◌, refl, sym, ap, subst, ◌∙◌, inl, inr, ◌⊎◌, ℕ, ◌≤◌, Bool, true, false, cond, not, List, [], ◌∷◌, Option, Some, None, Result, Ok, Err, arith}
-use Rattle.std.specs.List.{AllByRecursion}
 use Rattle.std.specs.Option.{option_map}
 use Rattle.std.proofs.lemmas.Bool.Decides.{nat_tests}
 use Rattle.tw_num.specs.declared.moment.Moment.{Moment}
@@ -24,7 +23,7 @@ use Rattle.tw_types.specs.Beliefs.{is_informed, last_of}
 use Rattle.tw_types.specs.Elections.{why_begun, own_promise}
 use Rattle.tw_types.specs.Groups.{NoGroup, group_made, first_decision, objections, first_objection}
 use Rattle.tw_types.specs.Process.{Process, started}
-use Rattle.tw_types.specs.Refusals.{Refusal, first_refusal}
+use Rattle.tw_types.specs.Refusals.{first_refusal}
 use Rattle.tw_types.specs.Taking.{is_barred}
 use Rattle.tw_types.specs.Turns.{is_turn, next_decision}
 use Rattle.tw_types.specs.Votes.{Promise}
@@ -46,6 +45,7 @@ use Rattle.tw_machine.specs.World.{Deed, deed_in, world, IsReplayable}
 use Rattle.safety_laws.specs.Effects.{written}
 use Rattle.safety_laws.specs.Groups.{OfGroups, OfMember}
 use Rattle.safety_laws.specs.Under.{HadPromised, IsUnder}
+use Rattle.safety_laws.proofs.Effects.{none_present}
 use Rattle.safety_laws.proofs.GroupLaws.{grouped_well}
 use Rattle.safety_laws.proofs.Induction.{earlier, Turn, turn}
 use Rattle.safety_laws.proofs.Lists.{of_each}
@@ -71,15 +71,6 @@ same p low = record { last = λ d is. inl is; promised = omega arith; ballot = l
 
 -- ---- the rules
 
--- tests that all pass
-all_pass : (rs : List Refusal) → first_refusal rs ≡ None → AllByRecursion (λ (r : Refusal). r.present ≡ false) rs
-all_pass [] none = tt
-all_pass (r ∷ rs) none = go r.present refl none (all_pass rs)
-  where
-    go : (b : Bool) → r.present ≡ b → cond b (Some r.reason) (first_refusal rs) ≡ None → (first_refusal rs ≡ None → AllByRecursion (λ (r : Refusal). r.present ≡ false) rs) → (r.present ≡ false) × AllByRecursion (λ (r : Refusal). r.present ≡ false) rs
-    go true is e rest = absurd (cc)
-    go false is e rest = (is, rest e)
-
 -- an informed process takes decisions of the promised group alone
 unbarred : (informed : Bool) (promised group : ℕ) → is_barred informed promised group ≡ false → not informed ≡ false → group ≡ promised
 unbarred true promised group free is = grind (arith, nat_tests)
@@ -89,7 +80,7 @@ decision_since : (d : Decision) (r : Run) → IsLow r.process → Since r.proces
 decision_since d r low = go (first_refusal (decision_tests r.process d)) refl
   where
     group : first_refusal (decision_tests r.process d) ≡ None → d.group ≡ r.process.vote.promised
-    group e = let pass = all_pass (decision_tests r.process d) e in unbarred (is_informed r.process.belief) r.process.vote.promised d.group pass.1.1.0 pass.1.1.1.0
+    group e = let pass = none_present (decision_tests r.process d) e in unbarred (is_informed r.process.belief) r.process.vote.promised d.group pass.1.1.0 pass.1.1.1.0
 
     go : (o : Option Reason) → first_refusal (decision_tests r.process d) ≡ o → Since r.process (elim o as (λ o. Ruled) [ None ↦ done (decision_taken d r) | Some reason ↦ dropped reason r ]).run.process
     go None e = record {
@@ -104,7 +95,7 @@ answer_since : (team : Team) (now : Moment) (from number : ℕ) (why : Why) (t :
 answer_since team now from number why t r low = go (first_refusal (answer_tests team now from number why t r.process)) refl
   where
     above : first_refusal (answer_tests team now from number why t r.process) ≡ None → r.process.vote.promised ≤ number
-    above e = let new = (all_pass (answer_tests team now from number why t r.process) e).1.1.1.0 in grind (arith, nat_tests)
+    above e = let new = (none_present (answer_tests team now from number why t r.process) e).1.1.1.0 in grind (arith, nat_tests)
 
     go : (o : Option Reason) → first_refusal (answer_tests team now from number why t r.process) ≡ o
         → Since r.process (elim o as (λ o. Ruled) [ None ↦ done (election_answered now from (promise_by r.process number t) r) | Some reason ↦ dropped reason r ]).run.process

@@ -17,7 +17,7 @@ use Rattle.safety_laws.specs.Ups.{WasUp, ups}
 use Rattle.safety_laws.proofs.Grown.{Grown, Quiet, NewPromise, NewMake, NewUp, grown}
 use Rattle.safety_laws.proofs.Lists.{each_weaker}
 use Rattle.safety_laws.proofs.MadeLists.{More, more_by, made_more, last_made, has_last}
-use Rattle.safety_laws.proofs.Stack.{Stepping, RulesOver}
+use Rattle.safety_laws.proofs.Stack.{Stepping, RulesOver, history_rules}
 
 -- The flag's definition is opened here alone: who is up has a last decision that started, with supports of a majority.
 pub up_has : (team : Team) (vote : Vote) (belief : Belief) (last : Decision) (t : ℕ) → last_of belief ≡ Some last → is_up team vote belief (Some t) ≡ true → (last.start ≤ t) × (is_supported team t last ≡ true)
@@ -55,10 +55,4 @@ changes team past s here x y at change maker all = go (grown here x y change)
     go (NewUp c promises makes ups) = rw ups (subst (λ ms. AllByRecursion (WasUp team ms) (up_at here.life here.step x.process c.t c.last ∷ x.written.ups)) (sym makes) (raised team past s here x y at maker c, all))
 
 pub ups_rules : (team : Team) → RulesOver team (made team) (ups team)
-ups_rules team = record {
-  nothing = tt;
-  waits = λ past s w sound ok before k. k;
-  remains = λ past s w who p sound ok same before h own k. tt;
-  begins = λ past s w mode sound ok act more before k. tt;
-  changes = λ past s here x y at mailed change before after k. record { history = changes team past s here x y at change before.own k.history; own = tt; others = λ q p other runs. tt };
-}
+ups_rules team = history_rules team (made team) (λ w. AllByRecursion (WasUp team w.makes) w.ups) tt (λ past s here x y at change before after k. changes team past s here x y at change before.own k)

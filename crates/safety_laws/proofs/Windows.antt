@@ -12,7 +12,7 @@ use Rattle.safety_laws.specs.Effects.{State, Here, Promises}
 use Rattle.safety_laws.specs.Laws.{Law}
 use Rattle.safety_laws.specs.Windows.{IsInWindow, windows}
 use Rattle.safety_laws.proofs.Grown.{Grown, Quiet, NewPromise, NewMake, NewUp, grown}
-use Rattle.safety_laws.proofs.Stack.{Stepping, RulesOver}
+use Rattle.safety_laws.proofs.Stack.{Stepping, RulesOver, history_rules}
 
 in_window : (team : Team) (number t : ℕ) → is_in_window team number t ≡ true → (slot_of team t ≤ number + 1) × (number ≤ slot_of team t + team.n + 1)
 in_window team number t e = (grind (arith, nat_tests), grind (arith, nat_tests))
@@ -25,13 +25,7 @@ kept team past s here x y at c =
     record { positive = omega arith; early = rw reads inside.0; late = rw reads inside.1 }
 
 pub windows_rules : (team : Team) (earlier : Law) → RulesOver team earlier (windows team)
-windows_rules team earlier = record {
-  nothing = tt;
-  waits = λ past s w sound ok before k. k;
-  remains = λ past s w who p sound ok same before h own k. tt;
-  begins = λ past s w mode sound ok act more before k. tt;
-  changes = λ past s here x y at mailed change before after k. record { history = go past s here x y at (grown here x y change) k.history; own = tt; others = λ q p other runs. tt };
-}
+windows_rules team earlier = history_rules team earlier (λ w. AllByRecursion (IsInWindow team) w.promises) tt (λ past s here x y at change before after k. go past s here x y at (grown here x y change) k)
   where
     go : (past : List Step) (s : Step) (here : Here) (x y : State) → Stepping team past s here → Grown here x y → AllByRecursion (IsInWindow team) x.written.promises → AllByRecursion (IsInWindow team) y.written.promises
     go past s here x y at (Quiet promises makes ups) k = rw promises k

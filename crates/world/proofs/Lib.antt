@@ -3,3 +3,4 @@ pub mod Acts
 pub mod Drift
 pub mod Histories
 pub mod Worlds
+pub mod Columns

@@ -6,3 +6,4 @@ pub mod Causes
 pub mod NodeConditions
 pub mod Deeds
 pub mod StandsFor
+pub mod Columns

@@ -7,11 +7,13 @@
 #![tactic(auto)]
 
 mod bounds;
+mod laws;
 mod node;
 mod refused;
 mod sent;
 mod world;
 
+pub use laws::columns_are_of_their_events;
 pub use refused::Refused;
 pub use world::World;
 

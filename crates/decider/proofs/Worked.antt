@@ -11,9 +11,10 @@ use Rattle.tw_types.specs.declared.message.Decision.{Decision}
 use Rattle.tw_types.specs.declared.answer.Reason.TheVariants.{Old, NotMember, Promised, Gap, Behind}
 use Rattle.tw_types.specs.Examples.{team_a}
 use Rattle.tw_types.specs.Beliefs.{Log, no_log}
+use Rattle.tw_types.specs.Logs.{list_tests}
 use Rattle.tw_types.specs.Decisions.{no_decision}
 use Rattle.tw_types.specs.Refusals.{first_refusal}
-use Rattle.tw_types.specs.Taking.{taking_tests, is_followed, list_tests}
+use Rattle.tw_types.specs.Taking.{taking_tests, is_followed}
 use Rattle.tw_types.specs.Turns.{is_turn, finished, next_decision}
 
 abbrev member : ℕ → ℕ → Member

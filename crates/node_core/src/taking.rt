@@ -5,7 +5,7 @@ ghost use Rattle.tw_types.specs.Team.{IsSound};
 ghost use Rattle.tw_types.specs.Beliefs.{no_log};
 ghost use Rattle.tw_types.specs.Flag.{counts, is_supported};
 ghost use Rattle.tw_types.specs.Refusals.{first_refusal};
-ghost use Rattle.tw_types.specs.Taking.{list_tests};
+ghost use Rattle.tw_types.specs.Logs.{list_tests};
 ghost use Rattle.decider.specs.Checks.{take_reason};
 
 use crate::state::{Belief, State};
@@ -105,6 +105,7 @@ impl State {
     }
 
     /// Takes a decision that came in time, if nothing is against it. Answers what is.
+    #[inline(never)]
     pub fn take_decision(&mut self, d: &Decision) -> Option<Reason>
         requires fits { IsInRange self.old }
         requires decision { DecisionFits self.old.team.n d.now }

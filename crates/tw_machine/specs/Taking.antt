@@ -5,7 +5,8 @@ use Rattle.tw_types.specs.declared.answer.Reason.{Reason}
 use Rattle.tw_types.specs.declared.answer.Reason.TheVariants.{NotMember}
 use Rattle.tw_types.specs.Refusals.{Refusal, first_refusal}
 use Rattle.tw_types.specs.Beliefs.{is_informed, view_decision}
-use Rattle.tw_types.specs.Taking.{taking_tests, list_tests, taken}
+use Rattle.tw_types.specs.Taking.{taking_tests, taken}
+use Rattle.tw_types.specs.Logs.{list_tests}
 use Rattle.tw_types.specs.Process.{Process}
 use Rattle.tw_machine.specs.Run.{Run, Ruled, done, dropped}
 use Rattle.tw_machine.specs.Standing.{member_of}

@@ -3,3 +3,5 @@ pub mod Lists
 mod Worked
 mod FlagWorked
 mod EachKind
+mod WaitingWorked
+mod LogsWorked

@@ -1,7 +1,6 @@
 -- Which promises and ballots a process may hold: all that they are made of is in the ranges of datagrams.
-use Rattle.std.specs.Prelude.{ℕ, ◌≤◌, ◌≡◌, Option, None, Some, IfSome, List}
+use Rattle.std.specs.Prelude.{ℕ, ◌≤◌, ◌≡◌, Option, None, Some, IfSome}
 use Rattle.std.specs.List.{AllByRecursion}
-use Rattle.tw_types.specs.declared.message.Report.{Report}
 use Rattle.tw_types.specs.declared.message.Decision.{Decision}
 use Rattle.tw_types.specs.declared.ballot.Ballot.{Ballot}
 use Rattle.tw_types.specs.Ranges.{IsPositive, ReportFits, DecisionFits, Distinct, IsTold}

@@ -24,3 +24,7 @@ pub mod Ballots
 pub mod BallotFits
 pub mod Elections
 pub mod Groups
+pub mod Updates
+pub mod Waiting
+pub mod Logs
+pub mod Appending

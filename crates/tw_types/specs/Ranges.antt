@@ -131,10 +131,14 @@ pub record ReadyFits (r : ℕ × ℕ × ℕ) : Type 0 where
 
 -- ---- the bodies
 
+-- the most bytes that the payload of an update has
+abbrev pub longest_payload : ℕ
+longest_payload = 128
+
 pub record UpdateFits (n : ℕ) (kept : Kept) : Type 0 where
   pub entry : SentFits n kept.entry
   pub early : kept.early ≡ false
-  pub payload : length kept.payload.items ≤ 128
+  pub payload : length kept.payload.items ≤ longest_payload
 
 -- two reports are of different processes
 abbrev pub Distinct : List Report → Type 0

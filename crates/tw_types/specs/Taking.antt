@@ -1,10 +1,10 @@
 -- When a process takes a decision that it received.
-use Rattle.std.specs.Prelude.{ℕ, ◌+◌, nat_lt, ◌==◌, Bool, not, ◌&&◌, ◌||◌, if◌then◌else◌, List, [], ◌∷◌, Option, Some}
+use Rattle.std.specs.Prelude.{ℕ, nat_lt, ◌==◌, Bool, not, ◌&&◌, if◌then◌else◌, List, [], ◌∷◌, Option, Some}
 use Rattle.tw_types.specs.declared.message.Member.{Member}
 use Rattle.tw_types.specs.declared.message.Decision.{Decision}
-use Rattle.tw_types.specs.declared.answer.Reason.TheVariants.{Old, NotMember, Promised, Gap, Behind}
-use Rattle.tw_types.specs.Beliefs.{Belief, Informed, Log, log_length}
-use Rattle.tw_types.specs.Decisions.{or_none, decision_length, is_older, has_seat}
+use Rattle.tw_types.specs.declared.answer.Reason.TheVariants.{Old, NotMember, Promised}
+use Rattle.tw_types.specs.Beliefs.{Belief, Informed}
+use Rattle.tw_types.specs.Decisions.{or_none, is_older, has_seat}
 use Rattle.tw_types.specs.Refusals.{Refusal}
 
 -- the decision isn't above the one that the process took or follows
@@ -27,13 +27,6 @@ taking_tests view informed me promised d =
 -- as informed processes do.
 abbrev pub is_followed : Bool → Member → ℕ → Decision → Bool
 is_followed informed me promised d = not informed && not (has_seat me d && (d.group == promised))
-
--- a decision's window begins behind the end of the own list, or ends before it; or it ends too far ahead of what was passed
-abbrev pub list_tests : Log → Decision → List Refusal
-list_tests log d =
-    record { reason = Gap; present = nat_lt (log_length log) d.low || nat_lt (decision_length d) (log_length log) }
-    ∷ record { reason = Behind; present = nat_lt (log.passed + 64) (decision_length d) }
-    ∷ []
 
 -- a decision that is taken is the last one of a process that is informed from then on
 abbrev pub taken : Decision → Belief

@@ -11,6 +11,7 @@ mod datagram;
 mod listed;
 mod message;
 mod outputs;
+mod payloads;
 mod row;
 mod step;
 mod team;
@@ -23,6 +24,7 @@ pub use message::{
     Atom, Decision, Entry, Kept, Kind, Member, Order, Report, Seat, Support, TimeMark, UpdateId,
 };
 pub use outputs::{Earlies, How, Mode, Outputs, Pass, Passes, Sends, View};
+pub use payloads::Payloads;
 pub use row::{Row, RowAnswer, RowLine};
 pub use step::{Act, Cause, Step};
 pub use team::{Team, TeamFault, maj};

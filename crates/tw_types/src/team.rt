@@ -1,3 +1,5 @@
+//! A team and its faults. Nothing else may say which numbers a team has.
+
 ghost use Rattle.std.specs.Prelude.{◌≡◌, ◌+◌, ◌/◌};
 
 /// A fixed team of processes and its times, in microseconds of team time where nothing else is said. The names follow

@@ -1,0 +1,3 @@
+pub mod Recent
+pub mod StandsFor
+pub mod Faults

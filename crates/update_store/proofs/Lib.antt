@@ -1,0 +1,4 @@
+pub mod Ids
+pub mod Order
+pub mod Rooms
+pub mod Facts

@@ -27,9 +27,11 @@ impl Beat {
 }
 
 impl State {
-    ghost use Rattle.std.specs.Prelude.{◌≡◌, ◌<◌, ◌≤◌, ◌+◌, ◌^◌, length, IfSome};
+    ghost use Rattle.std.specs.Prelude.{◌≡◌, ◌<◌, ◌≤◌, ◌+◌, ◌^◌, length, None, IfSome};
+    ghost use Rattle.tw_types.specs.declared.datagram.Body.TheVariants.{Sync};
     ghost use Rattle.tw_types.specs.declared.team.Team.{Team as TeamSeen};
     ghost use Rattle.tw_machine.specs.Run.{Run};
+    ghost use Rattle.tw_machine.specs.Sending.{sent_to_others};
     ghost use Rattle.tw_machine.specs.Beating.{is_repeated, repeat_decision, give_beat};
     ghost use Rattle.node_core.specs.InRange.{IsInRange};
     ghost use Rattle.node_core.specs.Moments.{MomentFits};
@@ -52,7 +54,9 @@ impl State {
         }
     }
 
-    /// Sends the last decision again to all others, where there is need.
+    /// Sends the last decision again to all others, where there is need. Like all that builds a body or a decision and isn't
+    /// done at each event, it isn't inlined: a function pays at entry for the room of all that it may build.
+    #[inline(never)]
     fn repeat_decision(&self, now: &Moment, out: &mut Outputs)
         requires fits { IsInRange self.now }
         requires now { MomentFits now.now }
@@ -66,6 +70,20 @@ impl State {
                 self.send_to_others(now, &Body::Decision(last.copy()), out);
             }
         }
+    }
+
+    /// Gives a sign of life to each other process.
+    #[inline(never)]
+    fn give_signs(&self, now: &Moment, out: &mut Outputs)
+        requires fits { IsInRange self.now }
+        requires now { MomentFits now.now }
+        requires room { length out.old.sends + 14 ≤ 64 }
+        ensures stands { (team : TeamSeen) (r : Run) → RunStandsFor team self.now out.old r →
+            RunStandsFor team self.now out.new (sent_to_others team.n now.now (Sync None) r) }
+        ensures gives { GivesMore self.now.team.n 14 out.old out.new }
+    {
+        let sign = Body::Sync { ready: None };
+        self.send_to_others(now, &sign, out);
     }
 
     /// Where a beat is due, says the last decision again, if there is need, and gives a sign of life to each other process.
@@ -82,8 +100,7 @@ impl State {
         if self.beat.is_due(self.team.pace, now.h) {
             self.beat.last = Some(now.h);
             self.repeat_decision(now, out);
-            let sign = Body::Sync { ready: None };
-            self.send_to_others(now, &sign, out);
+            self.give_signs(now, out);
         }
     }
 }

@@ -56,6 +56,7 @@ impl State {
     }
 
     /// Makes the group's next decision, which is due to this process.
+    #[inline(never)]
     pub fn take_turn(&mut self, now: &Moment, t: u64, out: &mut Outputs)
         requires fits { IsInRange self.old }
         requires now { MomentFits now.now }

@@ -17,6 +17,7 @@ impl State {
     /// Does the duties of a process that has the reading `t` of team time, in their order. One whose turn it is holds no ballot
     /// any more, so that it makes one decision at most.
     #[tactic(auto, unfolding(tw_machine::specs::Duties::timed_duties))]
+    #[inline(never)]
     fn timed_duties(&mut self, now: &Moment, t: u64, out: &mut Outputs)
         requires fits { IsInRange self.old }
         requires now { MomentFits now.now }

@@ -90,6 +90,7 @@ impl State {
     }
 
     /// Answers the election of process `from` by a promise, if nothing is against it. Answers what is.
+    #[inline(never)]
     pub fn answer_election(
         &mut self,
         now: &Moment,
@@ -124,7 +125,7 @@ impl State {
             report,
             decision,
         };
-        self.send_to(now, from, promise, out);
+        self.send_to(now, from, &promise, out);
         None
     }
 

@@ -24,6 +24,7 @@ impl State {
     ghost use Rattle.node_core.specs.StandsFor.{RunStandsFor, identity_seen};
 
     /// Adds a promise that came in time to the ballot of its number. Answers why it isn't, if it isn't.
+    #[inline(never)]
     pub fn take_promise(
         &mut self,
         number: u64,

@@ -2,7 +2,7 @@
 
 use crate::state::State;
 use tw_num::Moment;
-use tw_types::{Body, Datagram, Head, Outputs};
+use tw_types::{Body, Head, Outputs};
 
 impl State {
     ghost use Rattle.std.specs.Prelude.{◌≡◌, ◌≢◌, ◌==◌, ◌<◌, ◌≤◌, ◌+◌, [], ◌∷◌, map, length, not, if◌then◌else◌};
@@ -37,18 +37,18 @@ impl State {
     }
 
     /// Sends a body to one process.
-    pub fn send_to(&self, now: &Moment, to: u8, body: Body, out: &mut Outputs)
+    pub fn send_to(&self, now: &Moment, to: u8, body: &Body, out: &mut Outputs)
         requires to { to < self.now.team.n }
         requires now { MomentFits now.now }
         requires room { length out.old.sends + 1 ≤ 64 }
         ensures stands { (team : TeamSeen) (r : Run) → RunStandsFor team self.now out.old r →
-            RunStandsFor team self.now out.new (sent_to now.now body to r) }
-        ensures fits { IsSayable self.now.team.n self.now.identity body →
+            RunStandsFor team self.now out.new (sent_to now.now body.now to r) }
+        ensures fits { IsSayable self.now.team.n self.now.identity body.now →
             AllByRecursion (IsSendable self.now.team.n) out.old.sends → AllByRecursion (IsSendable self.now.team.n) out.new.sends }
         ensures few { length out.new.sends ≤ length out.old.sends + 1 }
     {
         let head = self.head_to(now, to);
-        out.sends.push((to, Datagram { head, body }));
+        out.sends.send(to, head, body);
     }
 
     /// Sends a body to one process, unless that is this process.
@@ -65,7 +65,7 @@ impl State {
         ensures same { to ≡ self.now.identity.who → out.new ≡ out.old }
     {
         if to != self.identity.who {
-            self.send_to(now, to, body.copy(), out);
+            self.send_to(now, to, body, out);
         }
     }
 

@@ -1,3 +1,5 @@
+//! The two numbers that stand for all intervals that a clock was given. `TeamClock` alone uses them.
+
 ghost use Rattle.std.specs.Prelude.{◌≡◌, ◌+◌, ◌*◌, ◌-◌, ◌<◌, ◌≤◌, ◌^◌, Some};
 ghost use Rattle.clock_sync.specs.Keys.{ends, narrowed, IsInRange};
 

@@ -1,3 +1,5 @@
+//! The clock of one process. It is told intervals and asked for readings, and nothing else changes it.
+
 use crate::keys::Keys;
 use std::marker::Model;
 use tw_num::{Disjoint, Interval};

@@ -1,3 +1,5 @@
+//! Whose turn it is, and the next decision. It makes values; a process keeps and sends them.
+
 ghost use Rattle.std.specs.Prelude.{◌≡◌, ℕ, ◌+◌, ◌<◌, ◌≤◌, ◌^◌, true, Some, length, map, min, drop, option_copied, is_some};
 ghost use Rattle.std.specs.List.{list_all, reduce};
 ghost use Rattle.std.specs.Option.{option_map};

@@ -1,3 +1,5 @@
+//! The first checks of a decision that is received. What becomes of it is the process's to do.
+
 ghost use Rattle.std.specs.Prelude.{◌≡◌, Some, None, MatchResult, IfOk, option_copied};
 ghost use Rattle.tw_types.specs.Decisions.{has_seat};
 ghost use Rattle.tw_types.specs.Refusals.{first_refusal};

@@ -1,3 +1,5 @@
+//! Ballots: how one begins and grows. Nothing else may change one.
+
 ghost use Rattle.std.specs.Prelude.{◌≡◌, ◌<◌, ◌≤◌, Some, if◌then◌else◌, ℕ, length};
 ghost use Rattle.std.specs.Option.{option_copied};
 ghost use Rattle.tw_types.specs.Decisions.{or_none, is_older};

@@ -1,3 +1,5 @@
+//! The group that a ballot makes, or why it makes none.
+
 ghost use Rattle.std.specs.Prelude.{◌≡◌, ◌-◌, ◌<◌, ◌≤◌, ◌^◌, length, IfSome, count_by, drop, option_copied};
 ghost use Rattle.std.specs.List.{list_any};
 ghost use Rattle.tw_types.specs.declared.message.Report.{Report};

@@ -1,3 +1,5 @@
+//! Who is a member of a group, and what its seat says.
+
 ghost use Rattle.tw_types.specs.Turns.{least};
 ghost use Rattle.std.specs.Prelude.{◌≡◌, ◌==◌, ◌<◌, ◌≤◌, ◌^◌, IfSome, filter, find, length, map};
 ghost use Rattle.std.specs.List.{filter_map};

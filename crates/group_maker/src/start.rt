@@ -1,3 +1,5 @@
+//! When a group starts: behind all that its ballot names.
+
 ghost use Rattle.std.specs.Prelude.{◌≡◌, ◌<◌, ◌^◌};
 ghost use Rattle.tw_types.specs.Groups.{start_of, lease_ends, greatest, readings};
 

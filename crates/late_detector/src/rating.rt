@@ -1,3 +1,5 @@
+//! How long a packet was on its way at most, and whether that is in time. It keeps nothing.
+
 ghost use Rattle.std.specs.Prelude.{◌≡◌, ◌<◌, ◌≤◌, ◌^◌, ◌⊎◌, IfSome, IfNone};
 ghost use Rattle.tw_num.specs.Rate.{echo_bound, interval_bound, lesser, rate};
 ghost use Rattle.late_detector.specs.Rating.{rating};

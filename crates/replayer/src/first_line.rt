@@ -1,3 +1,5 @@
+//! The first line of a text, and the rest. It sees bytes alone.
+
 ghost use Rattle.std.specs.Prelude.{◌≡◌, [], IfSome, IfNone, position, ◌==◌, ◌<◌, length};
 ghost use Rattle.replayer.specs.Cuts.{IsFirstLine};
 

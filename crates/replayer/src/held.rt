@@ -1,3 +1,5 @@
+//! Rows as bytes in memory until they are written: the sink that each row goes to first.
+
 use std::alloc::Global;
 use tw_io::{Sink, WriteFailed};
 

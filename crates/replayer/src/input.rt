@@ -1,3 +1,5 @@
+//! Reading a text to its end, or as far as it settles what the text is. It alone calls the source.
+
 ghost use Rattle.std.specs.Prelude.{◌≡◌, ℕ, ◌≤◌, List, Some, IfOk, IsErrOf};
 ghost use Rattle.tw_io.specs.Faults.{IsRisen};
 ghost use Rattle.replayer.specs.Cuts.{IsReadOf};

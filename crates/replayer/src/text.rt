@@ -1,3 +1,5 @@
+//! What a whole text comes to: its status, and the rows before the line that ends it. It reads and writes nothing.
+
 ghost use Rattle.std.specs.Prelude.{◌≡◌, ℕ, ◌≤◌, ◌<◌, ◌^◌, ◌+◌, ◌-◌, ◌++◌, [], ◌∷◌, List, None, IfOk, IfErr, OnOk, Some};
 ghost use Rattle.tw_types.specs.Team.{IsSound, fault_of};
 ghost use Rattle.tw_types.specs.declared.team.Team.{Team as TeamSeen};

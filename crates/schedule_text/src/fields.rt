@@ -1,3 +1,5 @@
+//! The words and numbers of one line, from left to right.
+
 ghost use Rattle.std.specs.Prelude.{◌≡◌, ℕ, ◌<◌, ◌≤◌, ◌^◌, ◌==◌, List, [], ◌∷◌, ◌++◌, map, IfOk, OnErr, IfSome, IfNone, length};
 ghost use Rattle.std.specs.List.{All, position, slice_split};
 ghost use Rattle.std.specs.Fmt.{decimal};

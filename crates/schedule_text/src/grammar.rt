@@ -1,3 +1,5 @@
+//! Lines as teams and steps, or as none. It knows no step before.
+
 ghost use Rattle.std.specs.Prelude.{◌≡◌, ℕ, ◌<◌, ◌^◌, List, [], ◌∷◌, IfOk, OnErr};
 ghost use Rattle.tw_types.specs.declared.team.Team.{Team as TeamSeen};
 ghost use Rattle.schedule_text.specs.Fields.{fields_left};

@@ -1,3 +1,5 @@
+//! Payloads as hexadecimal digits.
+
 ghost use Rattle.std.specs.Prelude.{◌≡◌, ℕ, ◌<◌, List, false, IfOk, OnErr};
 ghost use Rattle.std.specs.Fmt.{digit_glyph};
 ghost use Rattle.tw_machine.specs.Grammar.{IsPayload, hex_digits, hex_word};

@@ -1,3 +1,5 @@
+//! Writing a piece to its end, or failing.
+
 ghost use Rattle.std.specs.Prelude.{◌≡◌, ℕ, ◌≤◌, ◌++◌, List, Some, take, OnOk, OnErr};
 ghost use Rattle.tw_io.specs.Faults.{IsRisen};
 

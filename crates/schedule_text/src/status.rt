@@ -1,3 +1,5 @@
+//! How a command ends: its number, and its line on standard error.
+
 use std::fmt;
 use std::marker::Model;
 use tw_types::{Cause, TeamFault};

@@ -1,3 +1,5 @@
+//! The election of a slot's owner: when it begins, who answers, when it is complete. It changes no ballot.
+
 ghost use Rattle.tw_types.specs.Decisions.{or_none};
 ghost use Rattle.std.specs.Prelude.{◌≡◌, ◌+◌, ◌*◌, ◌/◌, ◌<◌, ◌^◌, Some, None, MatchResult, IfSome, if◌then◌else◌, option_copied};
 ghost use Rattle.tw_types.specs.Team.{IsSound};

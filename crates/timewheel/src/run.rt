@@ -1,3 +1,5 @@
+//! The top call: words to a command. What a user may rely on is said by its clauses.
+
 ghost use Rattle.std.specs.Prelude.{◌≡◌, ◌≢◌, ◌↔◌, ℕ, ◌≤◌, List, [], ◌∷◌, Some, map, codes, string_bytes, IsTrue, ◌⊎◌};
 ghost use Rattle.tw_io.specs.Faults.{IsRisen};
 ghost use Rattle.tw_types.specs.declared.team.TeamFault.{TeamFault as TeamFaultSeen};

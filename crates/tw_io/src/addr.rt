@@ -1,3 +1,5 @@
+//! Addresses, and what came from one.
+
 /// Where a process is reached: an IPv4 address and a port.
 #[derive(Clone, Copy, Debug, PartialEq, Eq)]
 pub struct Addr {

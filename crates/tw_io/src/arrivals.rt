@@ -1,3 +1,5 @@
+//! Datagrams in memory that are to arrive. `ListLink` and `SteadyLink` take from it.
+
 ghost use Rattle.std.specs.Prelude.{◌≡◌, ◌≤◌, length, drop, vec_len};
 ghost use Rattle.tw_io.specs.Arrivals.{bytes_of_all};
 

@@ -1,3 +1,5 @@
+//! A source over bytes in memory, of which chosen calls fail.
+
 use crate::failing::Failing;
 use crate::unread::Unread;
 use crate::{ReadFailed, Source};

@@ -1,3 +1,5 @@
+//! A sink into memory, with a room, of which chosen calls fail.
+
 ghost use Rattle.std.specs.Prelude.{◌≤◌, vec_len};
 
 use crate::failing::Failing;

@@ -1,3 +1,5 @@
+//! What a clock is: readings to come.
+
 /// A clock of one process. Its unit is one microsecond.
 pub trait Clock {
     ghost use Rattle.std.specs.Prelude.{◌≡◌, ◌≢◌, ℕ, List, [], Option, Some, None};

@@ -1,3 +1,5 @@
+//! The plan of which calls fail. The forms in memory ask it at each call, and nothing else counts calls.
+
 use std::alloc::{AllocError, Global};
 
 /// Which calls of one object are to fail, by their numbers from 1, and how often one did. Both counts stay at the last

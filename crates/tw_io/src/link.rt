@@ -1,3 +1,5 @@
+//! What a link is: an address that is bound, send calls, and datagrams that arrive.
+
 use crate::{Addr, Came};
 use std::error::Error;
 use std::fmt;

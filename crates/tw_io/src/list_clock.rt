@@ -1,3 +1,5 @@
+//! A clock over a list of readings.
+
 ghost use Rattle.std.specs.Prelude.{◌<◌, vec_len};
 
 use crate::Clock;

@@ -1,3 +1,5 @@
+//! What a sink is: bytes taken, and a count of faults.
+
 use std::error::Error;
 use std::fmt;
 

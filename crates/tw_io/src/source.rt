@@ -1,3 +1,5 @@
+//! What a source is: bytes left, and a count of faults.
+
 use std::error::Error;
 use std::fmt;
 

@@ -1,3 +1,5 @@
+//! Standard input and standard output. Nothing else in this crate touches the system.
+
 use crate::{ReadFailed, Sink, Source, WriteFailed};
 use std::io::{Read, Write};
 

@@ -1,3 +1,5 @@
+//! Forms in memory that never fail.
+
 use crate::arrivals::Arrivals;
 use crate::unread::Unread;
 use crate::{Addr, Came, Link, LinkFailed, ReadFailed, Sink, Source, WriteFailed};

@@ -1,3 +1,5 @@
+//! Bytes that are read from the front. The sources in memory stand on it.
+
 ghost use Rattle.std.specs.Prelude.{◌≤◌, vec_len};
 
 use std::alloc::{AllocError, Global};

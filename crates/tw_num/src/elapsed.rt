@@ -1,3 +1,6 @@
+//! How much team time so many ticks of a hardware clock mean, at least and at most. All else that speaks of drift
+//! calls these two.
+
 ghost use Rattle.std.specs.Prelude.{◌≡◌, ℕ, ◌<◌, ◌≤◌, ◌^◌, pos, ◌≤ℤ◌};
 ghost use Rattle.tw_num.specs.Elapsed.{MayElapse, up, down};
 

@@ -1,3 +1,5 @@
+//! Intervals that hold team time: how they age, and what two of them share. `clock_sync` alone keeps them.
+
 use crate::{down, up};
 
 /// A closed interval of team time, in microseconds. One with `hi` below `lo` holds no time.

@@ -1,3 +1,5 @@
+//! The one answer of every call that takes memory and finds none.
+
 use std::alloc::{AllocError, AllocFailed};
 use std::error::Error;
 use std::fmt;

@@ -1,3 +1,5 @@
+//! A moment of a process: what its clocks show. It is read once in each event, and handed on.
+
 use crate::Interval;
 
 /// What a process's own clock tells it at one moment.

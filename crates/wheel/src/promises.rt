@@ -1,3 +1,5 @@
+//! Which numbers may be promised, and why another isn't.
+
 ghost use Rattle.std.specs.Prelude.{◌≡◌, ◌<◌, ◌^◌, Some, None, MatchResult};
 ghost use Rattle.tw_types.specs.Team.{IsSound};
 ghost use Rattle.tw_types.specs.Refusals.{first_refusal};

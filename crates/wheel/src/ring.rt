@@ -1,3 +1,5 @@
+//! The ring of a decision's seats, and when its maker is overdue. It reads decisions and changes none.
+
 ghost use Rattle.std.specs.Prelude.{◌≡◌, ◌≤◌, nat_lt, length, option_copied, find};
 ghost use Rattle.tw_types.specs.Team.{IsSound};
 ghost use Rattle.tw_types.specs.Slots.{seat_after, after, is_suspect, is_stuck};

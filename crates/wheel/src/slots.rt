@@ -1,3 +1,5 @@
+//! Slots of team time and the owners of numbers: numbers alone.
+
 ghost use Rattle.std.specs.Prelude.{◌≡◌, ◌<◌, ◌≤◌, ◌^◌};
 ghost use Rattle.tw_types.specs.Team.{IsSound};
 ghost use Rattle.tw_types.specs.Slots.{slot_of, owner, next_owned, IsNextOwned};

@@ -1,3 +1,5 @@
+//! What is kept of a process's readings: the last, and two bounds that stand for all earlier ones.
+
 ghost use Rattle.std.specs.Prelude.{◌≡◌, ◌≤◌, ◌+◌, ◌-◌, ◌*◌, Some};
 ghost use Rattle.world.specs.Bounds.{raised, admits, widened};
 

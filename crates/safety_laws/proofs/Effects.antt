@@ -12,21 +12,23 @@ use Rattle.tw_types.specs.declared.datagram.Why.{Why}
 use Rattle.tw_types.specs.declared.datagram.Body.{Body}
 use Rattle.tw_types.specs.declared.datagram.Body.TheVariants as bodies
 use Rattle.tw_types.specs.declared.datagram.Datagram.{Datagram}
+use Rattle.tw_types.specs.declared.message.UpdateId.{UpdateId}
 use Rattle.tw_types.specs.declared.message.Decision.{Decision}
+use Rattle.tw_types.specs.declared.message.Kept.{Kept}
 use Rattle.tw_types.specs.declared.message.Member.{Member}
 use Rattle.tw_types.specs.declared.step.Step.{Step}
 use Rattle.tw_types.specs.Refusals.{Refusal, first_refusal}
 use Rattle.tw_types.specs.Votes.{Promise, Making}
 use Rattle.tw_types.specs.Reports.{is_by_informed, kind_of}
 use Rattle.tw_types.specs.Beliefs.{Belief, Informed, Blank, Log, is_informed, view_decision, log_length}
-use Rattle.tw_types.specs.Ballots.{wants, is_over, is_complete}
+use Rattle.tw_types.specs.Ballots.{wants, is_over}
 use Rattle.tw_types.specs.Decisions.{or_none, is_older, has_seat}
 use Rattle.tw_types.specs.Elections.{why_begun, own_promise}
+use Rattle.tw_types.specs.Waiting.{payloads_of}
 use Rattle.tw_types.specs.Groups.{NoGroup, group_made, group_making, first_decision, objections, first_objection, next_making}
-use Rattle.tw_types.specs.Taking.{taken}
 use Rattle.tw_types.specs.Turns.{is_turn, next_decision}
 use Rattle.tw_types.specs.Promises.{is_quarantined, is_in_window}
-use Rattle.tw_types.specs.Process.{Process}
+use Rattle.tw_types.specs.Process.{Process, Purpose, ToTake, ToGroup}
 use Rattle.tw_machine.specs.Dispatches.{sent_at}
 use Rattle.tw_machine.specs.History.{Promised, promise_item, make_item, promises_on, makes_on}
 use Rattle.tw_machine.specs.History as items
@@ -34,14 +36,16 @@ use Rattle.tw_machine.specs.Run.{Run, Ruled, done, dropped, with_sends}
 use Rattle.tw_machine.specs.Sending.{datagram_to, others, sent_to, sent_to_others}
 use Rattle.tw_machine.specs.Standing.{member_of, last_decision, report_by, promise_by}
 use Rattle.tw_machine.specs.Control.{rate_of, timely_reading, if_timely}
-use Rattle.tw_machine.specs.Taking.{decision_tests, decision_taken, take_decision}
+use Rattle.tw_machine.specs.Entering.{entered, decision_entered, held_for, decision_held}
+use Rattle.tw_machine.specs.Taking.{decision_tests, take_decision}
 use Rattle.tw_machine.specs.Electing.{promised, answer_tests, election_answered, answer_election, ballot_dropped, has_spent_ballot, drop_ballot, holds_election, election_begun, begin_election}
-use Rattle.tw_machine.specs.Deciding.{making_kept, decision_made, has_turn, turn_taken, take_turn}
-use Rattle.tw_machine.specs.Grouping.{promise_added, take_promise, group_begun, make_group}
-use Rattle.tw_machine.specs.Beating.{is_due, beat_marked, is_repeated, repeat_decision, beat_given, give_beat}
+use Rattle.tw_machine.specs.Deciding.{supporting, making_kept, decision_made, has_turn, entries_to_add, turn_taken, take_turn}
+use Rattle.tw_machine.specs.Grouping.{promise_added, take_promise, make_group}
+use Rattle.tw_machine.specs.Beating.{is_due, beat_marked, is_repeated, repeat_decision, ask_again, beat_given, give_beat}
 use Rattle.tw_machine.specs.Rules.{kind_rule, rule}
 use Rattle.tw_machine.specs.Duties.{timed_duties, duties_if_timed, duties}
 use Rattle.tw_machine.proofs.Tables.{all_mapped, all_of, equal_numbers}
+use Rattle.tw_machine.proofs.Ends.{by_taking, by_group, by_asking}
 use Rattle.safety_laws.specs.Effects.{Written, State, Here, state_of, NotBelow, Says, IsToldBy, BallotReason, MakeReason, Change, Changes}
 
 -- one item more, at the end of what a step gave, stands first
@@ -144,6 +148,33 @@ module _ (here : Here) (before : Written) where
       let new = datagram_to here.now r.process.identity r.process.timing body to ∷ [] in
       one r (sent_to here.now body to r) (sends r new (record { from = refl; incarnation = refl; says = says }, tt)) read
 
+  -- a change of what no law on groups reads
+  pub still : (a b : Run) → b.process.identity ≡ a.process.identity → b.process.vote ≡ a.process.vote → b.process.ballot ≡ a.process.ballot → b.process.belief ≡ a.process.belief → b.process.log ≡ a.process.log
+      → NotBelow a.process.timing.clock.greatest b.process.timing.clock.greatest → b.promises ≡ a.promises → b.makings ≡ a.makings → b.out.sends ≡ a.out.sends → Change here (at a) (at b)
+  still a b identity vote ballot belief log greatest promises makings sends = Change.Keep (record {
+    identity = identity;
+    vote = vote;
+    ballot = ballot;
+    belief = belief;
+    base = ap (λ (l : Log). l.base) log;
+    length = ap log_length log;
+    greatest = greatest;
+    promises = ap (λ ps. promises_on here.life here.step ps before.promises) promises;
+    makes = rw (identity, makings) refl;
+    ups = refl;
+    new = [];
+    sent = ap (λ ds. before.sent ++ map (sent_at here.step.t) ds) sends ∙ sym (append-nil (before.sent ++ map (sent_at here.step.t) a.out.sends));
+    told = tt;
+  })
+
+  -- a decision is held, and an update asked for
+  held_row : (purpose : Purpose) (d : Decision) (source : ℕ) (id : UpdateId) (r : Run) → IsRead r → Row r (decision_held here.now purpose d source id r)
+  held_row purpose d source id r read =
+      let held : Run = record r { process = held_for purpose d source r.process } in
+      after r held (decision_held here.now purpose d source id r)
+      (one r held (still r held refl refl refl refl refl (same_greatest r.process.timing.clock.greatest) refl refl refl) read)
+      (one_sent source _ held read tt)
+
   -- a promise
 
   record MayPromise (given : Promise) (t : ℕ) (r : Run) : Type 0 where
@@ -200,7 +231,7 @@ module _ (here : Here) (before : Written) where
         made = made;
         group = group;
         reason = reason;
-        process = ap (λ (p : Process). record p { vote = record (p.vote) { support = Some t }; belief = taken making.decision }) kept;
+        process = ap (λ (p : Process). entered making.decision (supporting t p)) kept;
         written = ap (λ ms. record (state_of here before r).written { makes = ms }) (make_first (member_of r.process.identity) here.life here.step making r.makings before.makes) ∙ all_same;
       }))
       kept_read)
@@ -220,7 +251,8 @@ module _ (here : Here) (before : Written) where
       by_test : (last : Decision) → last_decision r.process ≡ Some last → (test : Bool) → has_turn here.team t r.process ≡ test → Row r (cond test (turn_taken here.team here.now last t r) r)
       by_test last is true e =
           let turn : is_turn here.team (member_of r.process.identity) (Some last) r.process.vote.promised t ≡ true = subst (λ (o : Option Decision). is_turn here.team (member_of r.process.identity) o r.process.vote.promised t ≡ true) is e in
-          made_row (next_making last (next_decision [] last t r.process.identity.who)) t r r read reading refl (grind (arith, nat_tests)) (MakeReason.Next last is turn refl refl) refl refl
+          let group : last.group ≡ r.process.vote.promised = grind (arith, nat_tests) in
+          made_row (next_making last (next_decision (entries_to_add here.team t last r.process) last t r.process.identity.who)) t r r read reading refl group (MakeReason.Next last is turn refl refl) refl refl
       by_test last is false e = nothing r read
 
       go : (o : Option Decision) → last_decision r.process ≡ o → Row r (elim o as (λ o. Run) [ None ↦ r | Some last ↦ cond (has_turn here.team t r.process) (turn_taken here.team here.now last t r) r ])
@@ -258,32 +290,18 @@ module _ (here : Here) (before : Written) where
     made : d.made ≡ t
     group : d.group ≡ ballot.number
 
-  group_is : (ballot : Ballot) (me : Member) (t : ℕ) (d : Decision) → group_made here.team ballot me t ≡ Ok d → IsGroup ballot t d
-  group_is ballot me t d e = go (first_objection (objections here.team ballot me)) e
+  group_is : (ballot : Ballot) (log : Log) (payloads : List Kept) (me : Member) (t : ℕ) (d : Decision) → group_made here.team ballot log payloads me t ≡ Ok d → IsGroup ballot t d
+  group_is ballot log payloads me t d e = go (first_objection (objections here.team ballot log payloads me)) e
     where
       go : (o : Option NoGroup) → (elim o as (λ o. Result Decision NoGroup) [ None ↦ Ok (first_decision here.team ballot me t) | Some why ↦ Err why ]) ≡ Ok d → IsGroup ballot t d
       go None e = let same : first_decision here.team ballot me t ≡ d = cc in subst (IsGroup ballot t) same (record { made = refl; group = refl })
       go (Some why) e = absurd (cc)
 
   group_row : (t : ℕ) (r : Run) → IsRead r → here.now.reading ≡ Some t → IsPromised r → Row r (make_group here.team here.now t r)
-  group_row t r read reading promised = go r.process.ballot refl
-    where
-      made : (ballot : Ballot) → Result Decision NoGroup → Run
-      made ballot o = elim o as (λ o. Run) [ Ok d ↦ group_begun here.team here.now ballot d t r | Err why ↦ r ]
-
-      begun : (ballot : Ballot) → r.process.ballot ≡ Some ballot → is_complete here.team t ballot ≡ true → (o : Result Decision NoGroup) → group_made here.team ballot (member_of r.process.identity) t ≡ o → Row r (made ballot o)
-      begun ballot is full (Ok d) e =
-          let new = group_is ballot (member_of r.process.identity) t d e in
-          made_row (group_making ballot d) t r (ballot_dropped r) read reading new.made (new.group ∙ sym (promised ballot is)) (MakeReason.Group ballot is full e refl refl) refl refl
-      begun ballot is full (Err why) e = nothing r read
-
-      by_test : (ballot : Ballot) → r.process.ballot ≡ Some ballot → (test : Bool) → is_complete here.team t ballot ≡ test → Row r (cond test (made ballot (group_made here.team ballot (member_of r.process.identity) t)) r)
-      by_test ballot is true e = begun ballot is e (group_made here.team ballot (member_of r.process.identity) t) refl
-      by_test ballot is false e = nothing r read
-
-      go : (o : Option Ballot) → r.process.ballot ≡ o → Row r (elim o as (λ o. Run) [ None ↦ r | Some ballot ↦ cond (is_complete here.team t ballot) (made ballot (group_made here.team ballot (member_of r.process.identity) t)) r ])
-      go None is = nothing r read
-      go (Some ballot) is = by_test ballot is (is_complete here.team t ballot) refl
+  group_row t r read reading promised = by_group here.team here.now t r (Row r) (nothing r read)
+      (λ ballot d is full e. let new = group_is ballot r.process.log (payloads_of r.process.waiting) (member_of r.process.identity) t d e in
+      made_row (group_making ballot d) t r (ballot_dropped r) read reading new.made (new.group ∙ sym (promised ballot is)) (MakeReason.Group ballot is full e refl refl) refl refl)
+      (λ best source id. held_row ToGroup best source id r read)
 
   informed_by : (r : Run) → is_by_informed (report_by r.process 0) ≡ true → is_informed r.process.belief ≡ true
   informed_by r e = go r.process.belief e
@@ -347,24 +365,8 @@ module _ (here : Here) (before : Written) where
       go None is = nothing r read
       go (Some last) is = by_test last is (is_repeated here.team r.process last here.now.reading)
 
-  -- a change of what no law on groups reads
-  pub still : (a b : Run) → b.process.identity ≡ a.process.identity → b.process.vote ≡ a.process.vote → b.process.ballot ≡ a.process.ballot → b.process.belief ≡ a.process.belief → b.process.log ≡ a.process.log
-      → NotBelow a.process.timing.clock.greatest b.process.timing.clock.greatest → b.promises ≡ a.promises → b.makings ≡ a.makings → b.out.sends ≡ a.out.sends → Change here (at a) (at b)
-  still a b identity vote ballot belief log greatest promises makings sends = Change.Keep (record {
-    identity = identity;
-    vote = vote;
-    ballot = ballot;
-    belief = belief;
-    base = ap (λ (l : Log). l.base) log;
-    length = ap log_length log;
-    greatest = greatest;
-    promises = ap (λ ps. promises_on here.life here.step ps before.promises) promises;
-    makes = rw (identity, makings) refl;
-    ups = refl;
-    new = [];
-    sent = ap (λ ds. before.sent ++ map (sent_at here.step.t) ds) sends ∙ sym (append-nil (before.sent ++ map (sent_at here.step.t) a.out.sends));
-    told = tt;
-  })
+  ask_row : (r : Run) → IsRead r → Row r (ask_again here.now r)
+  ask_row r read = by_asking here.now r (Row r) (nothing r read) (λ id source. one_sent source _ r read tt)
 
   beat_row : (r : Run) → IsRead r → Row r (give_beat here.team here.now r)
   beat_row r read = go (is_due here.team.pace here.now.h r.process.beat)
@@ -372,13 +374,18 @@ module _ (here : Here) (before : Written) where
       marked : Run
       marked = beat_marked here.now.h r
 
+      again : Run
+      again = ask_again here.now marked
+
       go : (due : Bool) → Row r (cond due (beat_given here.team here.now r) r)
       go true =
           let first : Row r marked = one r marked (still r marked refl refl refl refl refl (same_greatest r.process.timing.clock.greatest) refl refl refl) read in
-          let second : Row marked (repeat_decision here.team here.now marked) = repeat_row marked read in
+          let second : Row marked again = ask_row marked read in
+          let third : Row again (repeat_decision here.team here.now again) = repeat_row again second.read in
           after r marked (beat_given here.team here.now r) first
-          (after marked (repeat_decision here.team here.now marked) (beat_given here.team here.now r) second
-          (others_sent here.team.n (bodies.Sync None) (repeat_decision here.team here.now marked) second.read tt))
+          (after marked again (beat_given here.team here.now r) second
+          (after again (repeat_decision here.team here.now again) (beat_given here.team here.now r) third
+          (others_sent here.team.n (bodies.Sync None) (repeat_decision here.team here.now again) third.read tt)))
       go false = nothing r read
 
   pub duties_row : (r : Run) → IsRead r → Row r (duties here.team here.now r)
@@ -390,11 +397,13 @@ module _ (here : Here) (before : Written) where
 
   -- the rules
 
-  decision_row : (head : Head) (d : Decision) (r : Run) → IsRead r → here.mail ≡ Some (record { head = head; body = bodies.Decision d }) → Row r (take_decision d r).run
-  decision_row head d r read mail = go (first_refusal (decision_tests r.process d)) refl
+  decision_row : (head : Head) (d : Decision) (r : Run) → IsRead r → here.mail ≡ Some (record { head = head; body = bodies.Decision d }) → Row r (take_decision here.now d r).run
+  decision_row head d r read mail = by_taking here.now d r (λ k. Row r k.run)
+      (λ free fits whole. one r (decision_entered d r) (Change.Take (record { taken_decision = d; head = head; received = mail; newer = newer free; seat = seat free; promised = group free; fits = fits; whole = whole; process = refl; written = refl })) read)
+      (λ id. held_row ToTake d d.maker id r read) (λ reason e. nothing r read) (λ reason e. nothing r read)
     where
-      newer : (rest : List Refusal) → first_refusal (decision_tests r.process d) ≡ None → is_older (or_none (view_decision r.process.belief)).group (or_none (view_decision r.process.belief)).turn d.group d.turn ≡ true
-      newer rest e = not_false _ (none_present (decision_tests r.process d) e).0
+      newer : first_refusal (decision_tests r.process d) ≡ None → is_older (or_none (view_decision r.process.belief)).group (or_none (view_decision r.process.belief)).turn d.group d.turn ≡ true
+      newer e = not_false _ (none_present (decision_tests r.process d) e).0
 
       informed : first_refusal (decision_tests r.process d) ≡ None → is_informed r.process.belief ≡ true
       informed e = not_false _ (none_present (decision_tests r.process d) e).1.1.1.0
@@ -407,11 +416,6 @@ module _ (here : Here) (before : Written) where
           let barred : cond (is_informed r.process.belief) (not (nat_eq d.group r.process.vote.promised)) (nat_lt d.group r.process.vote.promised) ≡ false = (none_present (decision_tests r.process d) e).1.1.0 in
           let same : nat_eq d.group r.process.vote.promised ≡ true = not_false _ (ap (λ b. cond b (not (nat_eq d.group r.process.vote.promised)) (nat_lt d.group r.process.vote.promised)) (sym (informed e)) ∙ barred) in
           equal_numbers d.group r.process.vote.promised same
-
-      go : (o : Option Reason) → first_refusal (decision_tests r.process d) ≡ o → Row r (elim o as (λ o. Ruled) [ None ↦ done (decision_taken d r) | Some reason ↦ dropped reason r ]).run
-      go None e = one r (decision_taken d r)
-          (Change.Take (record { taken_decision = d; head = head; received = mail; newer = newer [] e; seat = seat e; promised = group e; process = refl; written = refl })) read
-      go (Some reason) e = nothing r read
 
   answer_row : (from number : ℕ) (why : Why) (t : ℕ) (r : Run) → IsRead r → here.now.reading ≡ Some t → Row r (answer_election here.team here.now from number why t r).run
   answer_row from number why t r read reading = go (first_refusal (answer_tests here.team here.now from number why t r.process)) refl
@@ -452,7 +456,7 @@ module _ (here : Here) (before : Written) where
   kind_row : (head : Head) (body : Body) (r : Run) → IsRead r → here.mail ≡ Some (record { head = head; body = body }) → Row r (kind_rule here.team here.now head body r).run
   unfolding kind_rule
   kind_row head (bodies.Update kept) r read mail = nothing r read
-  kind_row head (bodies.Decision d) r read mail = timely_row head (λ t. take_decision d) r read (λ t e. decision_row head d r read mail)
+  kind_row head (bodies.Decision d) r read mail = timely_row head (λ t. take_decision here.now d) r read (λ t e. decision_row head d r read mail)
   kind_row head (bodies.NoDecision number group turn skip reports best) r read mail = nothing r read
   kind_row head (bodies.Election number why) r read mail = timely_row head (answer_election here.team here.now head.from number why) r read (λ t e. answer_row head.from number why t r read e)
   kind_row head (bodies.Promise number report d) r read mail = timely_row head (λ t. take_promise (record { number = number; report = report; decision = d })) r read (λ t e. ballot_row head (record { number = number; report = report; decision = d }) r read mail)

@@ -1,5 +1,5 @@
 -- What the first decision of a group is, by the ballot that it is made of.
-use Rattle.std.proofs.Common.{◌≡◌, ◌≢◌, refl, sym, ap, subst, ◌∙◌, inl, inr, ℕ, zero, suc, ◌+◌, ◌-◌, ◌^◌, ◌/◌, ◌≤◌, ◌<◌, max, Bool, true, false, cond, not, ◌||◌, nat_eq, nat_le, nat_lt, List, [], ◌∷◌, length, map, filter, drop, Option, Some, None, Result, Ok, Err, arith, length-drop}
+use Rattle.std.proofs.Common.{◌≡◌, ◌≢◌, refl, sym, ap, subst, ◌∙◌, inl, inr, ℕ, zero, suc, ◌+◌, ◌-◌, ◌/◌, ◌≤◌, ◌<◌, max, Bool, true, false, cond, not, ◌||◌, nat_eq, nat_lt, List, [], ◌∷◌, length, map, filter, drop, Option, Some, None, Result, Ok, Err, arith, length-drop}
 use Rattle.std.specs.List.{AllByRecursion, IsDistinct, list_any, filter_map, range_with_len, cons_option, fold}
 use Rattle.std.specs.Option.{option_map}
 use Rattle.std.specs.Prelude.{count_by}
@@ -8,13 +8,15 @@ use Rattle.std.proofs.lemmas.List.{length-map}
 use Rattle.std.proofs.lemmas.Map.Keys.{IsDistinct-head, IsDistinct-tail, IsDistinct-cons}
 use Rattle.tw_types.specs.declared.team.Team.{Team}
 use Rattle.tw_types.specs.declared.ballot.Ballot.{Ballot}
+use Rattle.tw_types.specs.declared.message.Kept.{Kept}
 use Rattle.tw_types.specs.declared.message.Decision.{Decision}
 use Rattle.tw_types.specs.declared.message.Member.{Member}
 use Rattle.tw_types.specs.declared.message.Report.{Report}
 use Rattle.tw_types.specs.declared.message.Seat.{Seat}
 use Rattle.tw_types.specs.declared.message.Support.{Support}
+use Rattle.tw_types.specs.Beliefs.{Log, log_length}
 use Rattle.tw_types.specs.Decisions.{or_none, decision_length, is_same_member, is_seat_of, has_seat}
-use Rattle.tw_types.specs.Groups.{NoGroup, consistent, ascending, seat_of, lease_ends, readings, greatest, start_of, objections, first_objection, first_decision, group_made}
+use Rattle.tw_types.specs.Groups.{NoGroup, consistent, ascending, seat_of, lease_ends, readings, greatest, start_of, Objection, objections, first_objection, first_decision, group_made}
 use Rattle.tw_types.specs.Ranges.{Distinct, Ascends}
 use Rattle.tw_types.specs.Reports.{is_by_informed, is_consistent}
 use Rattle.group_maker.proofs.Ascending.{report_of}
@@ -162,20 +164,26 @@ record IsUnopposed (team : Team) (b : Ballot) (me : Member) : Type 0 where
   there : list_any (λ (r : Report). is_same_member r.member me) (consistent b) ≡ true
   many : team.n / 2 + 1 ≤ length (consistent b)
 
-unopposed : (team : Team) (b : Ballot) (me : Member) → first_objection (objections team b me) ≡ None → IsUnopposed team b me
-unopposed team b me none = go (nat_lt (count_by is_by_informed b.reports.items) (team.n / 2 + 1)) (not (list_any (λ (r : Report). is_same_member r.member me) (consistent b)) || nat_lt (length (consistent b)) (team.n / 2 + 1)) refl refl none
+none_present : (os : List Objection) → first_objection os ≡ None → AllByRecursion (λ (o : Objection). o.present ≡ false) os
+none_present [] none = tt
+none_present (o ∷ os) none = go o.present refl none (none_present os)
   where
-    parts : (a c : Bool) → (not a || c) ≡ false → (a ≡ true) × (c ≡ false)
-    parts true c e = (refl, e)
-    parts false c e = absurd (cc)
+    go : (b : Bool) → o.present ≡ b → cond b (Some o.why) (first_objection os) ≡ None → (first_objection os ≡ None → AllByRecursion (λ (x : Objection). x.present ≡ false) os) → (o.present ≡ false) × AllByRecursion (λ (x : Objection). x.present ≡ false) os
+    go true e f rest = absurd (cc)
+    go false e f rest = (e, rest f)
 
-    go : (few apart : Bool) → nat_lt (count_by is_by_informed b.reports.items) (team.n / 2 + 1) ≡ few → (not (list_any (λ (r : Report). is_same_member r.member me) (consistent b)) || nat_lt (length (consistent b)) (team.n / 2 + 1)) ≡ apart
-        → cond few (Some NoGroup.TooFew) (cond apart (Some NoGroup.NotConsistent) (cond (nat_le (2 ^ 61) (start_of team b)) (Some NoGroup.Spent) None)) ≡ None → IsUnopposed team b me
-    go true apart e f none = absurd (cc)
-    go false true e f none = absurd (cc)
-    go false false e f none =
-        let both = parts (list_any (λ (r : Report). is_same_member r.member me) (consistent b)) (nat_lt (length (consistent b)) (team.n / 2 + 1)) f in
-        record { informed = grind (arith, nat_tests); there = both.0; many = let enough = both.1 in grind (arith, nat_tests) }
+unopposed : (team : Team) (b : Ballot) (log : Log) (payloads : List Kept) (me : Member) → first_objection (objections team b log payloads me) ≡ None → IsUnopposed team b me
+unopposed team b log payloads me none =
+    let all = none_present (objections team b log payloads me) none in
+    let few = all.0 in
+    let apart = parts (list_any (λ (r : Report). is_same_member r.member me) (consistent b)) (nat_lt (decision_length (or_none b.best)) (log_length log)) (nat_lt (length (consistent b)) (team.n / 2 + 1)) all.1.0 in
+    let enough = apart.1 in
+    record { informed = grind (arith, nat_tests); there = apart.0; many = grind (arith, nat_tests) }
+  where
+    parts : (there shorter few : Bool) → (not there || shorter || few) ≡ false → (there ≡ true) × (few ≡ false)
+    parts true false few e = (refl, e)
+    parts true true few e = absurd (cc)
+    parts false shorter few e = absurd (cc)
 
 pub same_member_of : (a b : Member) → is_same_member a b ≡ true → a ≡ b
 same_member_of a b e = record_same (grind (arith, nat_tests)) (grind (arith, nat_tests))
@@ -269,9 +277,9 @@ first_is team b me t below distinct free = record {
     later (Some d) o e = let same : d.start ≡ o.start = cc in omega arith
 
 -- of a group that was made
-pub first_of_ballot : (team : Team) (b : Ballot) (me : Member) (t : ℕ) (d : Decision) → AllByRecursion (λ (r : Report). r.member.who < team.n) b.reports.items → Distinct b.reports.items → group_made team b me t ≡ Ok d → IsFirstOf team b me t d
-first_of_ballot team b me t d below distinct e = go (first_objection (objections team b me)) refl e
+pub first_of_ballot : (team : Team) (b : Ballot) (log : Log) (payloads : List Kept) (me : Member) (t : ℕ) (d : Decision) → AllByRecursion (λ (r : Report). r.member.who < team.n) b.reports.items → Distinct b.reports.items → group_made team b log payloads me t ≡ Ok d → IsFirstOf team b me t d
+first_of_ballot team b log payloads me t d below distinct e = go (first_objection (objections team b log payloads me)) refl e
   where
-    go : (o : Option NoGroup) → first_objection (objections team b me) ≡ o → (elim o as (λ o. Result Decision NoGroup) [ None ↦ Ok (first_decision team b me t) | Some why ↦ Err why ]) ≡ Ok d → IsFirstOf team b me t d
-    go None none e = let same : first_decision team b me t ≡ d = cc in subst (IsFirstOf team b me t) same (first_is team b me t below distinct (unopposed team b me none))
+    go : (o : Option NoGroup) → first_objection (objections team b log payloads me) ≡ o → (elim o as (λ o. Result Decision NoGroup) [ None ↦ Ok (first_decision team b me t) | Some why ↦ Err why ]) ≡ Ok d → IsFirstOf team b me t d
+    go None none e = let same : first_decision team b me t ≡ d = cc in subst (IsFirstOf team b me t) same (first_is team b me t below distinct (unopposed team b log payloads me none))
     go (Some why) none e = absurd (cc)

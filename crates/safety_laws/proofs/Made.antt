@@ -1,5 +1,5 @@
 -- What was promised, made, kept and told agrees.
-use Rattle.std.proofs.Common.{◌≡◌, refl, sym, ap, subst, ◌∙◌, inl, ℕ, ◌≤◌, ◌<◌, Bool, true, false, List, [], ◌∷◌, ◌++◌, map, Option, Some, None, Ok, arith}
+use Rattle.std.proofs.Common.{◌≡◌, refl, sym, ap, subst, ◌∙◌, inl, ℕ, ◌+◌, ◌≤◌, ◌<◌, Bool, true, false, List, [], ◌∷◌, ◌++◌, map, length, Option, Some, None, Ok, arith}
 use Rattle.std.specs.List.{AllByRecursion}
 use Rattle.std.specs.Option.{option_map}
 use Rattle.std.proofs.lemmas.Bool.Decides.{nat_tests}
@@ -9,6 +9,7 @@ use Rattle.tw_types.specs.declared.datagram.Body.{Body}
 use Rattle.tw_types.specs.declared.datagram.Body.TheVariants as bodies
 use Rattle.tw_types.specs.declared.datagram.Datagram.{Datagram}
 use Rattle.tw_types.specs.declared.datagram.Head.{Head}
+use Rattle.tw_types.specs.declared.message.Entry.{Entry}
 use Rattle.tw_types.specs.declared.message.Decision.{Decision}
 use Rattle.tw_types.specs.declared.message.Member.{Member}
 use Rattle.tw_types.specs.declared.message.Report.{Report}
@@ -19,13 +20,16 @@ use Rattle.tw_types.specs.Decisions.{or_none, has_seat, decision_length}
 use Rattle.tw_types.specs.Process.{Process}
 use Rattle.tw_types.specs.Reports.{is_by_informed}
 use Rattle.tw_types.specs.Slots.{owner}
-use Rattle.tw_types.specs.Turns.{is_turn, next_draft, appended, next_decision, supported}
+use Rattle.tw_types.specs.Waiting.{payloads_of}
+use Rattle.tw_types.specs.Appending.{raised, with_appended}
+use Rattle.tw_types.specs.Turns.{is_turn, next_draft, next_decision}
 use Rattle.tw_types.specs.Groups.{next_making, group_made, group_making}
 use Rattle.tw_types.specs.Votes.{Promise, Making}
 use Rattle.tw_machine.specs.Dispatches.{Dispatch, sent_at}
 use Rattle.tw_machine.specs.History.{Promised, life, promise_item, make_item}
 use Rattle.tw_machine.specs.History as items
 use Rattle.tw_machine.specs.Standing.{member_of, last_decision, report_by}
+use Rattle.tw_machine.specs.Deciding.{entries_to_add}
 use Rattle.tw_machine.specs.World.{world}
 use Rattle.tw_machine.proofs.Tables.{all_joined, all_mapped, all_push}
 use Rattle.safety_laws.specs.Effects.{Written, State, Here, Says, IsToldBy, Promises, BallotReason, Begins, Adds, Drops, MakeReason, Next, Group, Makes, Change}
@@ -40,7 +44,7 @@ use Rattle.safety_laws.proofs.Ballots.{best_pushed, best_first, in_pushed, still
 use Rattle.safety_laws.proofs.FirstDecisions.{IsFirstOf, first_of_ballot, are_distinct, were_distinct}
 use Rattle.safety_laws.proofs.Lists.{of_each, each_weaker}
 use Rattle.safety_laws.proofs.MadeLists.{More, more_same, more_by, if_any_more, tells_more, arise_more, under_more, ballot_more, maker_more, seat_same, seat_other_promise, seat_other_make, last_made, own_group}
-use Rattle.safety_laws.proofs.NextDecisions.{next_seat, after_in, next_length, seat_stays}
+use Rattle.safety_laws.proofs.NextDecisions.{seat_due, next_seat, after_in, in_changed, next_length, appended_length, same_supported, seat_stays}
 use Rattle.safety_laws.proofs.Stack.{Stepping, IsMailed}
 use Rattle.safety_laws.proofs.Turns.{all_positive}
 
@@ -138,15 +142,16 @@ module _ (team : Team) (past : List Step) (s : Step) (here : Here) (x y : State)
   new_make : Makes here x y → items.Make
   new_make c = make_item (member_of x.process.identity) here.life here.step c.making
 
-  next_follows : (c : Makes here x y) → (last : Decision) → last_decision x.process ≡ Some last → is_turn here.team (member_of x.process.identity) (Some last) x.process.vote.promised c.t ≡ true
-      → c.making ≡ next_making last (next_decision [] last c.t x.process.identity.who) → Follows x.written.makes (make_item (member_of x.process.identity) here.life here.step c.making) last
-  next_follows c last is turn same =
-      let d : Decision = next_decision [] last c.t x.process.identity.who in
-      let ring = next_seat (member_of x.process.identity) last (grind (arith, nat_tests)) in
+  next_follows : (c : Makes here x y) → (entries : List Entry) → (last : Decision) → last_decision x.process ≡ Some last → is_turn here.team (member_of x.process.identity) (Some last) x.process.vote.promised c.t ≡ true
+      → c.making ≡ next_making last (next_decision entries last c.t x.process.identity.who) → Follows x.written.makes (make_item (member_of x.process.identity) here.life here.step c.making) last
+  next_follows c entries last is turn same =
+      let d : Decision = next_decision entries last c.t x.process.identity.who in
+      let ring = next_seat (member_of x.process.identity) last (seat_due here.team (member_of x.process.identity) last x.process.vote.promised c.t turn) in
       let seat_in = after_in last.maker last.seats.items ring.0 ring.1 in
       let who : x.process.identity.who ≡ here.step.who = before.own.own.is ∙ sym me in
       let mine : ring.0.member.who ≡ x.process.identity.who = ap (λ (m : Member). m.who) ring.2 in
-      let length = next_length last c.t x.process.identity.who ring.0 seat_in mine in
+      let same_length = next_length entries last c.t x.process.identity.who ring.0 seat_in mine in
+      let longer : decision_length d ≡ decision_length last + length entries = same_length ∙ appended_length entries (next_draft last c.t x.process.identity.who) in
       subst (λ (making : Making). Follows x.written.makes (make_item (member_of x.process.identity) here.life here.step making) last) (sym same) (record {
         was_made = last_made x.written.makes x.process last k.own.keeps is;
         before = refl;
@@ -156,8 +161,9 @@ module _ (team : Team) (past : List Step) (s : Step) (here : Here) (x y : State)
         start = refl;
         maker = who;
         ring = ring;
-        seats = ap (λ (w : ℕ). map (supported x.process.identity.who (record { ack = w; at = c.t })) last.seats.items) (sym length)
-            ∙ ap (λ (w : ℕ). map (supported w (record { ack = decision_length d; at = c.t })) last.seats.items) who;
+        entries = entries;
+        longer = longer;
+        seats = same_supported (map (raised entries) last.seats.items) x.process.identity.who here.step.who (decision_length (with_appended entries (next_draft last c.t x.process.identity.who))) (decision_length d) c.t who (sym same_length);
       })
 
   -- a ballot of which a group is made
@@ -208,16 +214,18 @@ module _ (team : Team) (past : List Step) (s : Step) (here : Here) (x y : State)
 
   -- ---- the lists after the effect
 
-  pub is_group : (c : Makes here x y) → (ballot : Ballot) → x.process.ballot ≡ Some ballot → group_made here.team ballot (member_of x.process.identity) c.t ≡ Ok c.making.decision → IsFirstOf team ballot (member_of x.process.identity) c.t c.making.decision
+  pub is_group : (c : Makes here x y) → (ballot : Ballot) → x.process.ballot ≡ Some ballot → group_made here.team ballot x.process.log (payloads_of x.process.waiting) (member_of x.process.identity) c.t ≡ Ok c.making.decision
+      → IsFirstOf team ballot (member_of x.process.identity) c.t c.making.decision
   is_group c ballot is e =
       let b = k.own.ballot ballot is in
-      first_of_ballot team ballot (member_of x.process.identity) c.t c.making.decision b.below (were_distinct ballot.reports.items b.distinct) (subst (λ (t : Team). group_made t ballot (member_of x.process.identity) c.t ≡ Ok c.making.decision) at.same_team e)
+      first_of_ballot team ballot x.process.log (payloads_of x.process.waiting) (member_of x.process.identity) c.t c.making.decision b.below (were_distinct ballot.reports.items b.distinct)
+      (subst (λ (t : Team). group_made t ballot x.process.log (payloads_of x.process.waiting) (member_of x.process.identity) c.t ≡ Ok c.making.decision) at.same_team e)
 
   new_arises : (c : Makes here x y) → Arises team x.written.promises x.written.makes (make_item (member_of x.process.identity) here.life here.step c.making)
   new_arises c = go c.reason
     where
       go : MakeReason here c.making c.t x y → Arises team x.written.promises x.written.makes (make_item (member_of x.process.identity) here.life here.step c.making)
-      go (Next last is turn same ballot) = AsNext last (next_follows c last is turn same)
+      go (Next last is turn same ballot) = AsNext last (next_follows c (entries_to_add here.team c.t last x.process) last is turn same)
       go (Group ballot is full e same none) = let first = is_group c ballot is e in AsFirst first.turn (group_comes c ballot is first same)
 
   new_under : (c : Makes here x y) → IsUnderPromise x.written.promises (make_item (member_of x.process.identity) here.life here.step c.making)
@@ -238,8 +246,10 @@ module _ (team : Team) (past : List Step) (s : Step) (here : Here) (x y : State)
     where
       go : MakeReason here c.making c.t x y → has_seat (member_of x.process.identity) c.making.decision ≡ true
       go (Next last is turn same ballot) =
-          let ring = next_seat (member_of x.process.identity) last (grind (arith, nat_tests)) in
-          let there = seat_stays x.process.identity.who (record { ack = decision_length (appended [] (next_draft last c.t x.process.identity.who)); at = c.t }) last.seats.items (member_of x.process.identity) ring.0 (after_in last.maker last.seats.items ring.0 ring.1) ring.2 in
+          let ring = next_seat (member_of x.process.identity) last (seat_due here.team (member_of x.process.identity) last x.process.vote.promised c.t turn) in
+          let entries = entries_to_add here.team c.t last x.process in
+          let there = seat_stays x.process.identity.who (record { ack = decision_length (with_appended entries (next_draft last c.t x.process.identity.who)); at = c.t }) (map (raised entries) last.seats.items) (member_of x.process.identity) (raised entries ring.0)
+          (in_changed (raised entries) last.seats.items ring.0 (after_in last.maker last.seats.items ring.0 ring.1)) ring.2 in
           subst (λ (m : Making). has_seat (member_of x.process.identity) m.decision ≡ true) (sym same) there
       go (Group ballot is full e same none) = (is_group c ballot is e).own_seat
 

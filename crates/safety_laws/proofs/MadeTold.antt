@@ -8,30 +8,35 @@ use Rattle.tw_types.specs.declared.datagram.Body.TheVariants as bodies
 use Rattle.tw_types.specs.declared.datagram.Datagram.{Datagram}
 use Rattle.tw_types.specs.declared.datagram.Why.{Why}
 use Rattle.tw_types.specs.declared.ballot.Ballot.{Ballot}
+use Rattle.tw_types.specs.declared.message.Kept.{Kept}
 use Rattle.tw_types.specs.declared.message.Decision.{Decision}
 use Rattle.tw_types.specs.declared.message.Member.{Member}
 use Rattle.tw_types.specs.declared.answer.Reason.{Reason}
 use Rattle.tw_types.specs.declared.answer.Reason.TheVariants as reasons
 use Rattle.tw_types.specs.Refusals.{first_refusal}
 use Rattle.tw_types.specs.Votes.{Promise, Making}
-use Rattle.tw_types.specs.Ballots.{wants, is_complete}
+use Rattle.tw_types.specs.Ballots.{wants}
 use Rattle.tw_types.specs.Elections.{why_begun, own_promise}
+use Rattle.tw_types.specs.Beliefs.{Log}
+use Rattle.tw_types.specs.Waiting.{payloads_of}
 use Rattle.tw_types.specs.Groups.{NoGroup, group_made, group_making, first_decision, objections, first_objection, next_making}
 use Rattle.tw_types.specs.Turns.{next_decision}
-use Rattle.tw_types.specs.Process.{Process}
+use Rattle.tw_types.specs.Process.{Process, ToGroup}
 use Rattle.tw_machine.specs.Event.{Event}
 use Rattle.tw_machine.specs.Run.{Run, Ruled, done, dropped}
 use Rattle.tw_machine.specs.Sending.{sent_to_others}
 use Rattle.tw_machine.specs.Standing.{member_of, last_decision, report_by, promise_by}
 use Rattle.tw_machine.specs.Control.{rate_of, timely_reading, if_timely}
-use Rattle.tw_machine.specs.Taking.{decision_tests, decision_taken, take_decision}
+use Rattle.tw_machine.specs.Entering.{decision_held}
+use Rattle.tw_machine.specs.Taking.{take_decision}
 use Rattle.tw_machine.specs.Electing.{answer_tests, election_answered, answer_election, ballot_dropped, has_spent_ballot, drop_ballot, holds_election, election_begun, begin_election}
-use Rattle.tw_machine.specs.Deciding.{decision_made, has_turn, turn_taken, take_turn}
-use Rattle.tw_machine.specs.Grouping.{promise_added, take_promise, group_begun, make_group}
-use Rattle.tw_machine.specs.Beating.{is_due, beat_marked, is_repeated, repeat_decision, beat_given, give_beat}
+use Rattle.tw_machine.specs.Deciding.{decision_made, has_turn, entries_to_add, turn_taken, take_turn}
+use Rattle.tw_machine.specs.Grouping.{promise_added, take_promise, make_group}
+use Rattle.tw_machine.specs.Beating.{is_due, beat_marked, is_repeated, repeat_decision, ask_again, beat_given, give_beat}
 use Rattle.tw_machine.specs.Rules.{kind_rule, rule}
 use Rattle.tw_machine.specs.Duties.{timed_duties, duties_if_timed, duties}
 use Rattle.tw_machine.specs.Step.{moment_of, read_by, ruled_by, has_duties, ended_by, step}
+use Rattle.tw_machine.proofs.Ends.{by_taking, by_group, by_asking}
 use Rattle.tw_machine.proofs.Exclusions.{turn_or_group, no_turn}
 
 -- from one run to a later one nothing more is made
@@ -85,7 +90,7 @@ turn_agrees : (team : Team) (now : Moment) (t : ℕ) (r : Run) → IsIdle r → 
 turn_agrees team now t r idle reading = go (last_decision r.process)
   where
     by_test : (last : Decision) → (test : Bool) → Agrees now (cond test (turn_taken team now last t r) r)
-    by_test last true = made_agrees team now (next_making last (next_decision [] last t r.process.identity.who)) t r idle reading refl
+    by_test last true = made_agrees team now (next_making last (next_decision (entries_to_add team t last r.process) last t r.process.identity.who)) t r idle reading refl
     by_test last false = idle_agrees now r idle
 
     go : (o : Option Decision) → Agrees now (elim o as (λ o. Run) [ None ↦ r | Some last ↦ cond (has_turn team t r.process) (turn_taken team now last t r) r ])
@@ -93,30 +98,18 @@ turn_agrees team now t r idle reading = go (last_decision r.process)
     go (Some last) = by_test last (has_turn team t r.process)
 
 -- a group is made at the moment of its making
-group_time : (team : Team) (ballot : Ballot) (me : Member) (t : ℕ) (d : Decision) → group_made team ballot me t ≡ Ok d → d.made ≡ t
-group_time team ballot me t d e = go (first_objection (objections team ballot me)) e
+group_time : (team : Team) (ballot : Ballot) (log : Log) (payloads : List Kept) (me : Member) (t : ℕ) (d : Decision) → group_made team ballot log payloads me t ≡ Ok d → d.made ≡ t
+group_time team ballot log payloads me t d e = go (first_objection (objections team ballot log payloads me)) e
   where
     go : (o : Option NoGroup) → (elim o as (λ o. Result Decision NoGroup) [ None ↦ Ok (first_decision team ballot me t) | Some why ↦ Err why ]) ≡ Ok d → d.made ≡ t
     go None e = let is : first_decision team ballot me t ≡ d = cc in ap (λ (d : Decision). d.made) (sym is)
     go (Some why) e = absurd (cc)
 
 group_agrees : (team : Team) (now : Moment) (t : ℕ) (r : Run) → IsIdle r → now.reading ≡ Some t → Agrees now (make_group team now t r)
-group_agrees team now t r idle reading = go r.process.ballot
-  where
-    made : (ballot : Ballot) → Result Decision NoGroup → Run
-    made ballot o = elim o as (λ o. Run) [ Ok d ↦ group_begun team now ballot d t r | Err why ↦ r ]
-
-    begun : (ballot : Ballot) → (o : Result Decision NoGroup) → group_made team ballot (member_of r.process.identity) t ≡ o → Agrees now (made ballot o)
-    begun ballot (Ok d) e = made_agrees team now (group_making ballot d) t (ballot_dropped r) (record { line = idle.line; told = idle.told }) reading (group_time team ballot (member_of r.process.identity) t d e)
-    begun ballot (Err why) e = idle_agrees now r idle
-
-    by_test : (ballot : Ballot) → (test : Bool) → Agrees now (cond test (made ballot (group_made team ballot (member_of r.process.identity) t)) r)
-    by_test ballot true = begun ballot (group_made team ballot (member_of r.process.identity) t) refl
-    by_test ballot false = idle_agrees now r idle
-
-    go : (o : Option Ballot) → Agrees now (elim o as (λ o. Run) [ None ↦ r | Some ballot ↦ cond (is_complete team t ballot) (made ballot (group_made team ballot (member_of r.process.identity) t)) r ])
-    go None = idle_agrees now r idle
-    go (Some ballot) = by_test ballot (is_complete team t ballot)
+group_agrees team now t r idle reading = by_group team now t r (Agrees now) (idle_agrees now r idle)
+    (λ ballot d is full e. made_agrees team now (group_making ballot d) t (ballot_dropped r) (record { line = idle.line; told = idle.told }) reading
+    (group_time team ballot r.process.log (payloads_of r.process.waiting) (member_of r.process.identity) t d e))
+    (λ best source id. still_agrees now r (decision_held now ToGroup best source id r) (record { line = refl; told = refl }) (idle_agrees now r idle))
 
 -- who has its turn makes no group
 turn_or_group_agrees : (team : Team) (now : Moment) (t : ℕ) (r : Run) → IsIdle r → now.reading ≡ Some t → Agrees now (make_group team now t (take_turn team now t (drop_ballot team t r)))
@@ -157,6 +150,9 @@ repeat_none team now r = go (last_decision r.process)
     go None = same r
     go (Some last) = by_test last (is_repeated team r.process last now.reading)
 
+ask_none : (now : Moment) (r : Run) → MakesNone r (ask_again now r)
+ask_none now r = by_asking now r (MakesNone r) (same r) (λ id source. record { line = refl; told = refl })
+
 beat_none : (team : Team) (now : Moment) (r : Run) → MakesNone r (give_beat team now r)
 beat_none team now r = go (is_due team.pace now.h r.process.beat)
   where
@@ -164,7 +160,7 @@ beat_none team now r = go (is_due team.pace now.h r.process.beat)
     marked = beat_marked now.h r
 
     go : (due : Bool) → MakesNone r (cond due (beat_given team now r) r)
-    go true = let said = repeat_none team now marked in record { line = said.line; told = said.told }
+    go true = let said = then_none marked (ask_again now marked) (repeat_decision team now (ask_again now marked)) (ask_none now marked) (repeat_none team now (ask_again now marked)) in record { line = said.line; told = said.told }
     go false = same r
 
 duties_agree : (team : Team) (now : Moment) (r : Run) → IsIdle r → Agrees now (duties team now r)
@@ -175,12 +171,8 @@ duties_agree team now r idle =
 
 -- ---- the rules
 
-decision_none : (d : Decision) (r : Run) → MakesNone r (take_decision d r).run
-decision_none d r = go (first_refusal (decision_tests r.process d))
-  where
-    go : (o : Option Reason) → MakesNone r (elim o as (λ o. Ruled) [ None ↦ done (decision_taken d r) | Some reason ↦ dropped reason r ]).run
-    go None = record { line = refl; told = refl }
-    go (Some reason) = same r
+decision_none : (now : Moment) (d : Decision) (r : Run) → MakesNone r (take_decision now d r).run
+decision_none now d r = by_taking now d r (λ k. MakesNone r k.run) (λ free fits whole. record { line = refl; told = refl }) (λ id. record { line = refl; told = refl }) (λ reason e. same r) (λ reason e. same r)
 
 answer_none : (team : Team) (now : Moment) (from number : ℕ) (why : Why) (t : ℕ) (r : Run) → MakesNone r (answer_election team now from number why t r).run
 answer_none team now from number why t r = go (first_refusal (answer_tests team now from number why t r.process))
@@ -206,7 +198,7 @@ timely_none team now head rule r each = go (timely_reading (rate_of team now hea
 kind_none : (team : Team) (now : Moment) (head : Head) (body : Body) (r : Run) → MakesNone r (kind_rule team now head body r).run
 unfolding kind_rule
 kind_none team now head (bodies.Update kept) r = same r
-kind_none team now head (bodies.Decision d) r = timely_none team now head (λ t. take_decision d) r (λ t. decision_none d r)
+kind_none team now head (bodies.Decision d) r = timely_none team now head (λ t. take_decision now d) r (λ t. decision_none now d r)
 kind_none team now head (bodies.NoDecision number group turn skip reports best) r = same r
 kind_none team now head (bodies.Election number why) r = timely_none team now head (answer_election team now head.from number why) r (λ t. answer_none team now head.from number why t r)
 kind_none team now head (bodies.Promise number report d) r = timely_none team now head (λ t. take_promise (record { number = number; report = report; decision = d })) r (λ t. promise_none (record { number = number; report = report; decision = d }) r)

@@ -1,19 +1,26 @@
 -- What a next decision is, by the one that it follows.
-use Rattle.std.proofs.Common.{◌≡◌, ◌||◌, refl, sym, ap, subst, ◌∙◌, inl, inr, ℕ, ◌-◌, ◌≤◌, max, min, Bool, true, false, cond, nat_eq, nat_lt, List, [], ◌∷◌, length, map, drop, Option, Some, None, find, slice_get, filter_map, is_some, arith, length-drop}
+use Rattle.std.proofs.Common.{◌≡◌, ◌||◌, refl, sym, ap, subst, ◌∙◌, inl, inr, ℕ, ◌+◌, ◌-◌, ◌≤◌, max, min, Bool, true, false, cond, nat_eq, nat_lt, List, [], ◌∷◌, ◌++◌, length, map, drop, Option, Some, None, find, slice_get, filter_map, is_some, arith, length-drop, length-append}
 use Rattle.std.specs.List.{list_all, list_any, fold, cons_option}
 use Rattle.std.specs.Option.{option_or, option_map_or}
 use Rattle.std.proofs.lemmas.Bool.Decides.{nat_tests}
+use Rattle.tw_types.specs.declared.team.Team.{Team}
+use Rattle.tw_types.specs.declared.message.Entry.{Entry}
 use Rattle.tw_types.specs.declared.message.Decision.{Decision}
 use Rattle.tw_types.specs.declared.message.Member.{Member}
 use Rattle.tw_types.specs.declared.message.Seat.{Seat}
 use Rattle.tw_types.specs.declared.message.Support.{Support}
 use Rattle.tw_types.specs.Decisions.{decision_length, is_same_member, is_seat_of}
 use Rattle.tw_types.specs.Slots.{seat_after}
-use Rattle.tw_types.specs.Turns.{is_next, next_draft, appended, supported, acks, least, raised_low, cut_to, with_own_support, finished, next_decision}
+use Rattle.tw_types.specs.Appending.{raised, with_appended}
+use Rattle.tw_types.specs.Turns.{is_turn, is_next, next_draft, supported, acks, least, raised_low, cut_to, with_own_support, finished, next_decision}
 use Rattle.safety_laws.specs.Laws.{In}
 use Rattle.safety_laws.proofs.FirstDecisions.{same_member_of, same_member, or_later}
 
 -- ---- the ring
+
+-- whose turn it is has the seat after the last maker's
+pub seat_due : (team : Team) (me : Member) (last : Decision) (promised t : ℕ) → is_turn team me (Some last) promised t ≡ true → is_next me last ≡ true
+seat_due team me last promised t turn = grind (arith, nat_tests)
 
 pub next_seat : (me : Member) (d : Decision) → is_next me d ≡ true → (seat : Seat) × (seat_after d.maker d.seats.items ≡ Some seat) × (seat.member ≡ me)
 next_seat me d e = go (seat_after d.maker d.seats.items) refl e
@@ -98,10 +105,25 @@ finished_length draft seat i mine =
     (raised_above draft.low (with_own_support draft).seats.items)
     (raised_below draft.low (decision_length draft) (with_own_support draft).seats.items (omega arith) acked)
 
-pub next_length : (last : Decision) (t who : ℕ) (seat : Seat) → In seat last.seats.items → seat.member.who ≡ who → decision_length (next_decision [] last t who) ≡ decision_length (appended [] (next_draft last t who))
-next_length last t who seat i mine = finished_length (appended [] (next_draft last t who)) seat i mine
+-- what stands in a list stands, changed, in the list of all that are changed so
+pub in_changed : (f : Seat → Seat) (seats : List Seat) (seat : Seat) → In seat seats → In (f seat) (map f seats)
+in_changed f [] seat i = absurd i
+in_changed f (x ∷ seats) seat (inl e) = inl (ap f e)
+in_changed f (x ∷ seats) seat (inr i) = inr (in_changed f seats seat i)
+
+-- and whatever entries are added, a next decision is as long as the last one with them
+pub next_length : (entries : List Entry) (last : Decision) (t who : ℕ) (seat : Seat) → In seat last.seats.items → seat.member.who ≡ who → decision_length (next_decision entries last t who) ≡ decision_length (with_appended entries (next_draft last t who))
+next_length entries last t who seat i mine = finished_length (with_appended entries (next_draft last t who)) (raised entries seat) (in_changed (raised entries) last.seats.items seat i) mine
+
+-- which is longer than that by the entries
+pub appended_length : (entries : List Entry) (d : Decision) → decision_length (with_appended entries d) ≡ decision_length d + length entries
+appended_length entries d = let all : length (d.window.items ++ entries) ≡ length d.window.items + length entries = simp length-append in omega (arith, all)
 
 -- ---- its seats
+
+-- the supports that an equal length and an equal process give
+pub same_supported : (seats : List Seat) (who who' ack ack' at : ℕ) → who ≡ who' → ack ≡ ack' → map (supported who (record { ack = ack; at = at })) seats ≡ map (supported who' (record { ack = ack'; at = at })) seats
+same_supported seats who who' ack ack' at e f = rw (e, f) refl
 
 pub any_in : {X : Type 0} (t : X → Bool) (xs : List X) → list_any t xs ≡ true → (x : X) × In x xs × (t x ≡ true)
 any_in {X = X} t [] e = absurd (cc)
@@ -116,11 +138,6 @@ has_seat_of [] m seat i e = absurd i
 has_seat_of (x ∷ seats) m seat (inl same) e = let here : x.member ≡ m = ap (λ (z : Seat). z.member) (sym same) ∙ e in rw (here, same_member m) refl
 has_seat_of (x ∷ seats) m seat (inr i) e = or_later (is_seat_of m x) (list_any (is_seat_of m) seats) (has_seat_of seats m seat i e)
 
-pub in_supported : (who : ℕ) (support : Support) (seats : List Seat) (seat : Seat) → In seat seats → In (supported who support seat) (map (supported who support) seats)
-in_supported who support [] seat i = absurd i
-in_supported who support (x ∷ seats) seat (inl e) = inl (ap (supported who support) e)
-in_supported who support (x ∷ seats) seat (inr i) = inr (in_supported who support seats seat i)
-
 pub supported_is : (who : ℕ) (support : Support) (seat : Seat) → (supported who support seat).member ≡ seat.member
 supported_is who support seat = go (nat_eq seat.member.who who)
   where
@@ -129,4 +146,4 @@ supported_is who support seat = go (nat_eq seat.member.who who)
     go false = refl
 
 pub seat_stays : (who : ℕ) (support : Support) (seats : List Seat) (m : Member) (seat : Seat) → In seat seats → seat.member ≡ m → list_any (is_seat_of m) (map (supported who support) seats) ≡ true
-seat_stays who support seats m seat i e = has_seat_of (map (supported who support) seats) m (supported who support seat) (in_supported who support seats seat i) (supported_is who support seat ∙ e)
+seat_stays who support seats m seat i e = has_seat_of (map (supported who support) seats) m (supported who support seat) (in_changed (supported who support) seats seat i) (supported_is who support seat ∙ e)

@@ -6,6 +6,7 @@ use Rattle.std.proofs.lemmas.Bool.Decides.{nat_tests}
 use Rattle.tw_types.specs.declared.team.Team.{Team}
 use Rattle.tw_types.specs.declared.ballot.Ballot.{Ballot}
 use Rattle.tw_types.specs.declared.datagram.Body.TheVariants as bodies
+use Rattle.tw_types.specs.declared.message.Entry.{Entry}
 use Rattle.tw_types.specs.declared.message.Decision.{Decision}
 use Rattle.tw_types.specs.declared.message.Member.{Member}
 use Rattle.tw_types.specs.declared.message.Seat.{Seat}
@@ -15,6 +16,7 @@ use Rattle.tw_types.specs.declared.step.Step.{Step}
 use Rattle.tw_types.specs.Ballots.{begun, joined, wants}
 use Rattle.tw_types.specs.Beliefs.{Belief, Informed, Blank, is_informed, last_of, view_decision}
 use Rattle.tw_types.specs.Decisions.{or_none, is_older, is_seat_of}
+use Rattle.tw_types.specs.Waiting.{payloads_of}
 use Rattle.tw_types.specs.Groups.{group_made, next_making}
 use Rattle.tw_types.specs.Process.{Process, started}
 use Rattle.tw_types.specs.Reports.{is_by_informed}
@@ -24,6 +26,7 @@ use Rattle.tw_types.specs.Votes.{Promise, Making}
 use Rattle.tw_machine.specs.History.{Promised, life, promise_item, make_item}
 use Rattle.tw_machine.specs.History as items
 use Rattle.tw_machine.specs.Standing.{member_of, last_decision}
+use Rattle.tw_machine.specs.Deciding.{entries_to_add}
 use Rattle.tw_machine.specs.World.{world}
 use Rattle.safety_laws.specs.Ascend.{IsBelow, Ascends}
 use Rattle.safety_laws.specs.Effects.{Written, State, Here, BallotReason, Begins, Adds, Drops, Takes, MakeReason, Next, Group, Makes, Change}
@@ -41,7 +44,7 @@ use Rattle.safety_laws.proofs.Induction.{start_by}
 use Rattle.safety_laws.proofs.Made.{is_group, carried_by_mail}
 use Rattle.safety_laws.proofs.MadeRules.{first_life}
 use Rattle.safety_laws.proofs.MadeLists.{last_made, has_last}
-use Rattle.safety_laws.proofs.NextDecisions.{next_seat, any_in}
+use Rattle.safety_laws.proofs.NextDecisions.{seat_due, next_seat, any_in}
 use Rattle.safety_laws.proofs.Stack.{Stepping, IsMailed, RulesOver, first_of, second_of}
 use Rattle.safety_laws.proofs.Turns.{all_positive, IsPromisedSeat, seats_promised, once_same, first_of_make, arises_of}
 
@@ -126,7 +129,7 @@ module _ (team : Team) (past : List Step) (s : Step) (here : Here) (x y : State)
       was = last_made x.written.makes x.process last maker.keeps is
 
       ring : (seat : Seat) × (seat_after last.maker last.seats.items ≡ Some seat) × (seat.member ≡ member_of x.process.identity)
-      ring = next_seat (member_of x.process.identity) last (grind (arith, nat_tests))
+      ring = next_seat (member_of x.process.identity) last (seat_due here.team (member_of x.process.identity) last x.process.vote.promised c.t turn)
 
       by_member : d.member ≡ member_of x.process.identity → ⊥
       by_member member =
@@ -166,17 +169,17 @@ module _ (team : Team) (past : List Step) (s : Step) (here : Here) (x y : State)
   made_before : Holds (made team) steps (world team past) s.who x
   made_before = second_of (Both (of_promises team) memory) (made team) steps (world team past) s.who x before
 
-  group_is : (c : Makes here x y) → (ballot : Ballot) → x.process.ballot ≡ Some ballot → group_made here.team ballot (member_of x.process.identity) c.t ≡ Ok c.making.decision → IsFirstOf team ballot (member_of x.process.identity) c.t c.making.decision
+  group_is : (c : Makes here x y) → (ballot : Ballot) → x.process.ballot ≡ Some ballot → group_made here.team ballot x.process.log (payloads_of x.process.waiting) (member_of x.process.identity) c.t ≡ Ok c.making.decision → IsFirstOf team ballot (member_of x.process.identity) c.t c.making.decision
   group_is = is_group team past s here x y at mailed change early early_after made_before
 
-  next_pair : (c : Makes here x y) → (last : Decision) → c.making ≡ next_making last (next_decision [] last c.t x.process.identity.who) → (c.making.decision.group ≡ last.group) × (c.making.decision.turn ≡ suc last.turn)
-  next_pair c last same = (ap (λ (m : Making). m.decision.group) same, ap (λ (m : Making). m.decision.turn) same ∙ omega arith)
+  next_pair : (c : Makes here x y) → (entries : List Entry) → (last : Decision) → c.making ≡ next_making last (next_decision entries last c.t x.process.identity.who) → (c.making.decision.group ≡ last.group) × (c.making.decision.turn ≡ suc last.turn)
+  next_pair c entries last same = (ap (λ (m : Making). m.decision.group) same, ap (λ (m : Making). m.decision.turn) same ∙ omega arith)
 
   new_once : (c : Makes here x y) → AllByRecursion (λ (d : items.Make). SamePair (make_item (member_of x.process.identity) here.life here.step c.making) d → ⊥) x.written.makes
   new_once c = each_from (λ (d : items.Make). SamePair (make_item (member_of x.process.identity) here.life here.step c.making) d → ⊥) x.written.makes (λ d i same. go c.reason d i same)
     where
       go : MakeReason here c.making c.t x y → (d : items.Make) → In d x.written.makes → SamePair (make_item (member_of x.process.identity) here.life here.step c.making) d → ⊥
-      go (Next last is turn eq ballot) d i same = let pair = next_pair c last eq in not_made_next c last is turn d i (sym same.0 ∙ pair.0, sym same.1 ∙ pair.1)
+      go (Next last is turn eq ballot) d i same = let pair = next_pair c (entries_to_add here.team c.t last x.process) last eq in not_made_next c last is turn d i (sym same.0 ∙ pair.0, sym same.1 ∙ pair.1)
       go (Group ballot is full e eq none) d i same =
           of_each (λ (m : items.Make). m.making.decision.group ≢ ballot.number) x.written.makes d (k.own.1 ballot is) i (sym same.0 ∙ (group_is c ballot is e).group)
 
@@ -186,7 +189,7 @@ module _ (team : Team) (past : List Step) (s : Step) (here : Here) (x y : State)
     where
       go : MakeReason here c.making c.t x y → IsNotOlder c.making.decision.group c.making.decision.turn d.making.decision.group d.making.decision.turn
       go (Next last is turn eq ballot) =
-          let pair = next_pair c last eq in
+          let pair = next_pair c (entries_to_add here.team c.t last x.process) last eq in
           let low = above_last last is d i by in
           more last.group last.turn c.making.decision.group c.making.decision.turn d.making.decision.group d.making.decision.turn low pair.0 pair.1
         where
@@ -351,7 +354,7 @@ module _ (team : Team) (past : List Step) (s : Step) (here : Here) (x y : State)
       go : MakeReason here c.making c.t x y → ⊥
       go (Next last is turn eq ballot) =
           let was = last_made x.written.makes x.process last maker.keeps is in
-          of_each (λ (m : items.Make). m.making.decision.group ≢ b.number) x.written.makes was.0 unmade was.1 (ap (λ (z : Decision). z.group) was.2 ∙ sym (next_pair c last eq).0 ∙ same)
+          of_each (λ (m : items.Make). m.making.decision.group ≢ b.number) x.written.makes was.0 unmade was.1 (ap (λ (z : Decision). z.group) was.2 ∙ sym (next_pair c (entries_to_add here.team c.t last x.process) last eq).0 ∙ same)
       go (Group ballot is full e eq none) =
           let first = group_is c ballot is e in
           let h = maker.ballot ballot is in

@@ -9,6 +9,7 @@ use Rattle.tw_types.specs.declared.message.Member.{Member}
 use Rattle.tw_types.specs.declared.message.Seat.{Seat}
 use Rattle.tw_types.specs.declared.message.Support.{Support}
 use Rattle.tw_types.specs.Decisions.{decision_length}
+use Rattle.tw_types.specs.Appending.{raised}
 use Rattle.tw_types.specs.Turns.{supported}
 use Rattle.tw_machine.specs.History.{Promised, Make}
 use Rattle.safety_laws.specs.Laws.{In}
@@ -31,7 +32,8 @@ first_supported team promises older m comes = each_weaker (λ (s : Seat). s.supp
     (λ seat k support is. let own = k (λ none. let no : Some support ≡ None = sym is ∙ none in cc) in of_itself (m ∷ older) m seat support (inl refl) (sym own.0) (some_same (sym is ∙ own.1))) comes.supports
 
 -- a support of the decision before stands in the next one
-carried_on : (older : List Make) (m b : Make) (last : Decision) (seat : Seat) (support : Support) → Follows older m last → b.making.decision ≡ last → (d : Make) × In d older × IsMakeOf b seat support d → (d : Make) × In d (m ∷ older) × IsMakeOf m seat support d
+carried_on : (older : List Make) (m b : Make) (last : Decision) (seat : Seat) (support : Support) → (f : Follows older m last) → b.making.decision ≡ last → (d : Make) × In d older × IsMakeOf b seat support d
+    → (d : Make) × In d (m ∷ older) × IsMakeOf m (raised f.entries seat) support d
 carried_on older m b last seat support f same (d, i, k) = (
   d,
   inr i,
@@ -56,18 +58,18 @@ next_supported older m b last f same name apart all =
     own : Support
     own = record { ack = decision_length m.making.decision; at = m.making.decision.made }
 
-    one : (seat : Seat) → In seat last.seats.items → IsSupported older b seat → IsSupported (m ∷ older) m (supported m.who own seat)
+    one : (seat : Seat) → In seat last.seats.items → IsSupported older b seat → IsSupported (m ∷ older) m (supported m.who own (raised f.entries seat))
     one seat i k = by_test (nat_eq seat.member.who m.who) refl
       where
-        by_test : (mine : Bool) → nat_eq seat.member.who m.who ≡ mine → IsSupported (m ∷ older) m (cond mine (record seat { support = Some own }) seat)
+        by_test : (mine : Bool) → nat_eq seat.member.who m.who ≡ mine → IsSupported (m ∷ older) m (cond mine (record (raised f.entries seat) { support = Some own }) (raised f.entries seat))
         by_test true e support is =
             let ring = f.ring in
             let who : seat.member.who ≡ ring.0.member.who = (let w : seat.member.who ≡ m.who = grind (arith, nat_tests) in w) ∙ sym name ∙ ap (λ (z : Member). z.who) (sym ring.2) in
             let member : seat.member ≡ m.member = apart seat ring.0 i (after_in last.maker last.seats.items ring.0 ring.1) who ∙ ring.2 in
-            of_itself (m ∷ older) m (record seat { support = Some own }) support (inl refl) (sym member) (some_same (sym is))
+            of_itself (m ∷ older) m (record (raised f.entries seat) { support = Some own }) support (inl refl) (sym member) (some_same (sym is))
         by_test false e support is = carried_on older m b last seat support f same (k support is)
 
-    go : (seats : List Seat) → ((seat : Seat) → In seat seats → In seat last.seats.items) → AllByRecursion (IsSupported older b) seats → AllByRecursion (IsSupported (m ∷ older) m) (map (supported m.who own) seats)
+    go : (seats : List Seat) → ((seat : Seat) → In seat seats → In seat last.seats.items) → AllByRecursion (IsSupported older b) seats → AllByRecursion (IsSupported (m ∷ older) m) (map (supported m.who own) (map (raised f.entries) seats))
     go [] within k = tt
     go (seat ∷ seats) within k = (one seat (within seat (inl refl)) k.0, go seats (λ s i. within s (inr i)) k.1)
 

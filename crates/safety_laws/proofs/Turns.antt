@@ -2,13 +2,16 @@
 use Rattle.std.proofs.Common.{◌≡◌, refl, sym, ap, subst, ◌∙◌, inl, inr, ℕ, ◌≤◌, List, [], ◌∷◌, map, arith}
 use Rattle.std.specs.List.{AllByRecursion}
 use Rattle.tw_types.specs.declared.team.Team.{Team}
+use Rattle.tw_types.specs.declared.message.Entry.{Entry}
 use Rattle.tw_types.specs.declared.message.Decision.{Decision}
 use Rattle.tw_types.specs.declared.message.Member.{Member}
 use Rattle.tw_types.specs.declared.message.Report.{Report}
 use Rattle.tw_types.specs.declared.message.Seat.{Seat}
 use Rattle.tw_types.specs.declared.message.Support.{Support}
+use Rattle.tw_types.specs.Appending.{raised}
 use Rattle.tw_types.specs.Turns.{supported}
 use Rattle.tw_machine.specs.History.{Promised, Make}
+use Rattle.tw_machine.proofs.Tables.{all_mapped}
 use Rattle.safety_laws.specs.Laws.{In}
 use Rattle.safety_laws.specs.Made.{WasMade, WasReported, Follows, ComesFrom, Arises, AsFirst, AsNext, AllArise, IsBeginOf, members}
 use Rattle.safety_laws.specs.Once.{SamePair, AllOnce}
@@ -50,7 +53,8 @@ seats_promised team promises = along_turns team promises (λ (m : Make). AllByRe
         → AllByRecursion (IsPromisedSeat promises m.making.decision.group) m.making.decision.seats.items
     next older m b last f i same all =
         let was : AllByRecursion (IsPromisedSeat promises last.group) last.seats.items = subst (λ (d : Decision). AllByRecursion (IsPromisedSeat promises d.group) d.seats.items) same all in
-        rw (f.seats, f.group) (of_supported (λ member. (x : Promised) × In x promises × (x.promise.number ≡ last.group) × (x.promise.report.member ≡ member)) m.who _ last.seats.items was)
+        rw (f.seats, f.group) (of_supported (λ member. (x : Promised) × In x promises × (x.promise.number ≡ last.group) × (x.promise.report.member ≡ member)) m.who _ (map (raised f.entries) last.seats.items)
+        (all_mapped (IsPromisedSeat promises last.group) (raised f.entries) last.seats.items was))
 
 -- two makes of one pair are one
 pub once_same : (makes : List Make) → AllOnce makes → (a b : Make) → In a makes → In b makes → SamePair a b → a ≡ b
@@ -64,8 +68,12 @@ supported_members : (who : ℕ) (support : Support) (seats : List Seat) → map 
 supported_members who support [] = refl
 supported_members who support (s ∷ seats) = let one = supported_is who support s in let more = supported_members who support seats in cc
 
+raised_members : (entries : List Entry) (seats : List Seat) → map (λ (s : Seat). s.member) (map (raised entries) seats) ≡ map (λ (s : Seat). s.member) seats
+raised_members entries [] = refl
+raised_members entries (s ∷ seats) = ap (λ ms. s.member ∷ ms) (raised_members entries seats)
+
 follower_members : (older : List Make) (m : Make) (last : Decision) → Follows older m last → members m.making.decision ≡ members last
-follower_members older m last k = ap (λ (seats : List Seat). map (λ (s : Seat). s.member) seats) k.seats ∙ supported_members _ _ last.seats.items
+follower_members older m last k = ap (λ (seats : List Seat). map (λ (s : Seat). s.member) seats) k.seats ∙ supported_members _ _ (map (raised k.entries) last.seats.items) ∙ raised_members k.entries last.seats.items
 
 -- Each make's group was begun by an older make or by itself.
 pub first_of_make : (team : Team) (promises : List Promised) (makes : List Make) → AllArise team promises makes → (m : Make) → In m makes → (k : Make) × In k makes × IsBeginOf m.making.decision k

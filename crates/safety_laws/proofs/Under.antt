@@ -1,5 +1,5 @@
 -- A decision that a process has after a step, and hadn't before it, is of the group that it had promised last before the step.
-use Rattle.std.proofs.Common.{◌≡◌, ◌≢◌, refl, sym, ap, subst, ◌∙◌, inl, inr, ◌⊎◌, ℕ, ◌≤◌, Bool, true, false, cond, not, List, [], ◌∷◌, Option, Some, None, Result, Ok, Err, arith}
+use Rattle.std.proofs.Common.{◌≡◌, ◌≢◌, refl, sym, ap, subst, ◌∙◌, inl, inr, ◌⊎◌, ℕ, ◌≤◌, Bool, true, false, cond, not, List, ◌∷◌, Option, Some, None, Result, Ok, Err, arith}
 use Rattle.std.specs.Option.{option_map}
 use Rattle.std.proofs.lemmas.Bool.Decides.{nat_tests}
 use Rattle.tw_num.specs.declared.moment.Moment.{Moment}
@@ -13,35 +13,39 @@ use Rattle.tw_types.specs.declared.datagram.Why.{Why}
 use Rattle.tw_types.specs.declared.datagram.Body.{Body}
 use Rattle.tw_types.specs.declared.datagram.Body.TheVariants as bodies
 use Rattle.tw_types.specs.declared.datagram.Datagram.{Datagram}
+use Rattle.tw_types.specs.declared.message.Kept.{Kept}
 use Rattle.tw_types.specs.declared.message.Decision.{Decision}
 use Rattle.tw_types.specs.declared.message.Member.{Member}
 use Rattle.tw_types.specs.declared.outputs.Mode.{Mode}
 use Rattle.tw_types.specs.declared.outputs.Mode.TheVariants as modes
 use Rattle.tw_types.specs.declared.step.Step.{Step}
-use Rattle.tw_types.specs.Ballots.{joined, wants, is_over, is_complete}
-use Rattle.tw_types.specs.Beliefs.{is_informed, last_of}
+use Rattle.tw_types.specs.Ballots.{joined, wants, is_over}
+use Rattle.tw_types.specs.Beliefs.{Log, is_informed, last_of}
 use Rattle.tw_types.specs.Elections.{why_begun, own_promise}
+use Rattle.tw_types.specs.Waiting.{payloads_of}
 use Rattle.tw_types.specs.Groups.{NoGroup, group_made, first_decision, objections, first_objection}
-use Rattle.tw_types.specs.Process.{Process, started}
+use Rattle.tw_types.specs.Process.{Process, started, ToGroup}
 use Rattle.tw_types.specs.Refusals.{first_refusal}
 use Rattle.tw_types.specs.Taking.{is_barred}
 use Rattle.tw_types.specs.Turns.{is_turn, next_decision}
 use Rattle.tw_types.specs.Votes.{Promise}
-use Rattle.tw_machine.specs.Beating.{is_due, is_repeated, repeat_decision, beat_marked, beat_given, give_beat}
+use Rattle.tw_machine.specs.Beating.{is_due, is_repeated, repeat_decision, ask_again, beat_marked, beat_given, give_beat}
 use Rattle.tw_machine.specs.Control.{rate_of, timely_reading, if_timely}
-use Rattle.tw_machine.specs.Deciding.{has_turn, turn_taken, take_turn}
+use Rattle.tw_machine.specs.Deciding.{has_turn, entries_to_add, turn_taken, take_turn}
 use Rattle.tw_machine.specs.Duties.{timed_duties, duties_if_timed, duties}
 use Rattle.tw_machine.specs.Electing.{answer_tests, election_answered, answer_election, ballot_dropped, has_spent_ballot, drop_ballot, holds_election, election_begun, begin_election}
 use Rattle.tw_machine.specs.Event.{Event}
-use Rattle.tw_machine.specs.Grouping.{promise_added, take_promise, group_begun, make_group}
+use Rattle.tw_machine.specs.Entering.{decision_held}
+use Rattle.tw_machine.specs.Grouping.{promise_added, take_promise, make_group}
 use Rattle.tw_machine.specs.History.{Promised, life}
 use Rattle.tw_machine.specs.Rules.{kind_rule, rule}
 use Rattle.tw_machine.specs.Run.{Run, Ruled, done, dropped}
 use Rattle.tw_machine.specs.Sending.{sent_to_others}
 use Rattle.tw_machine.specs.Standing.{member_of, last_decision, report_by, promise_by}
 use Rattle.tw_machine.specs.Step.{learnt_by, moment_of, read_by, ruled_by, has_duties, ended_by, step, looked}
-use Rattle.tw_machine.specs.Taking.{decision_tests, decision_taken, take_decision}
+use Rattle.tw_machine.specs.Taking.{decision_tests, take_decision}
 use Rattle.tw_machine.specs.World.{Deed, deed_in, world, IsReplayable}
+use Rattle.tw_machine.proofs.Ends.{by_taking, by_group, by_asking}
 use Rattle.safety_laws.specs.Effects.{written}
 use Rattle.safety_laws.specs.Groups.{OfGroups, OfMember}
 use Rattle.safety_laws.specs.Under.{HadPromised, IsUnder}
@@ -76,19 +80,17 @@ unbarred : (informed : Bool) (promised group : ℕ) → is_barred informed promi
 unbarred true promised group free is = grind (arith, nat_tests)
 unbarred false promised group free is = absurd (cc)
 
-decision_since : (d : Decision) (r : Run) → IsLow r.process → Since r.process (take_decision d r).run.process
-decision_since d r low = go (first_refusal (decision_tests r.process d)) refl
+decision_since : (now : Moment) (d : Decision) (r : Run) → IsLow r.process → Since r.process (take_decision now d r).run.process
+decision_since now d r low = by_taking now d r (λ k. Since r.process k.run.process)
+    (λ free fits whole. record {
+      last = λ x is. let it : d ≡ x = cc in inr (subst (λ (z : Decision). z.group ≡ r.process.vote.promised) it (group free));
+      promised = omega arith;
+      ballot = low.ballot;
+    })
+    (λ id. record { last = λ x is. inl is; promised = omega arith; ballot = low.ballot }) (λ reason e. same r.process low) (λ reason e. same r.process low)
   where
     group : first_refusal (decision_tests r.process d) ≡ None → d.group ≡ r.process.vote.promised
     group e = let pass = none_present (decision_tests r.process d) e in unbarred (is_informed r.process.belief) r.process.vote.promised d.group pass.1.1.0 pass.1.1.1.0
-
-    go : (o : Option Reason) → first_refusal (decision_tests r.process d) ≡ o → Since r.process (elim o as (λ o. Ruled) [ None ↦ done (decision_taken d r) | Some reason ↦ dropped reason r ]).run.process
-    go None e = record {
-      last = λ x is. let it : d ≡ x = cc in inr (subst (λ (z : Decision). z.group ≡ r.process.vote.promised) it (group e));
-      promised = omega arith;
-      ballot = low.ballot;
-    }
-    go (Some reason) e = same r.process low
 
 -- a promise is above what was promised before
 answer_since : (team : Team) (now : Moment) (from number : ℕ) (why : Why) (t : ℕ) (r : Run) → IsLow r.process → Since r.process (answer_election team now from number why t r).run.process
@@ -124,7 +126,7 @@ timely_since team now head rule r low each = go (timely_reading (rate_of team no
 kind_since : (team : Team) (now : Moment) (head : Head) (body : Body) (r : Run) → IsLow r.process → Since r.process (kind_rule team now head body r).run.process
 unfolding kind_rule
 kind_since team now head (bodies.Update kept) r low = same r.process low
-kind_since team now head (bodies.Decision d) r low = timely_since team now head (λ t. take_decision d) r low (λ t. decision_since d r low)
+kind_since team now head (bodies.Decision d) r low = timely_since team now head (λ t. take_decision now d) r low (λ t. decision_since now d r low)
 kind_since team now head (bodies.NoDecision number group turn skip reports best) r low = same r.process low
 kind_since team now head (bodies.Election number why) r low = timely_since team now head (answer_election team now head.from number why) r low (λ t. answer_since team now head.from number why t r low)
 kind_since team now head (bodies.Promise number report d) r low = timely_since team now head (λ t. take_promise (record { number = number; report = report; decision = d })) r low (λ t. promise_since (record { number = number; report = report; decision = d }) r low)
@@ -185,7 +187,7 @@ turn_ready team now t p r low k = go (last_decision r.process) refl
     by_test : (last : Decision) → last_decision r.process ≡ Some last → (test : Bool) → has_turn team t r.process ≡ test → Ready p (cond test (turn_taken team now last t r) r).process
     by_test last is true e = record {
       since = record {
-        last = λ d made. let it : next_decision [] last t r.process.identity.who ≡ d = cc in inr (subst (λ (z : Decision). z.group ≡ p.vote.promised) it (group last is e));
+        last = λ d made. let it : next_decision (entries_to_add team t last r.process) last t r.process.identity.who ≡ d = cc in inr (subst (λ (z : Decision). z.group ≡ p.vote.promised) it (group last is e));
         promised = k.since.promised;
         ballot = k.since.ballot;
       };
@@ -198,42 +200,29 @@ turn_ready team now t p r low k = go (last_decision r.process) refl
     go (Some last) is = by_test last is (has_turn team t r.process) refl
 
 -- a group that is made is of its ballot's number
-group_number : (team : Team) (ballot : Ballot) (me : Member) (t : ℕ) (d : Decision) → group_made team ballot me t ≡ Ok d → d.group ≡ ballot.number
-group_number team ballot me t d e = go (first_objection (objections team ballot me)) e
+group_number : (team : Team) (ballot : Ballot) (log : Log) (payloads : List Kept) (me : Member) (t : ℕ) (d : Decision) → group_made team ballot log payloads me t ≡ Ok d → d.group ≡ ballot.number
+group_number team ballot log payloads me t d e = go (first_objection (objections team ballot log payloads me)) e
   where
     go : (o : Option NoGroup) → (elim o as (λ o. Result Decision NoGroup) [ None ↦ Ok (first_decision team ballot me t) | Some why ↦ Err why ]) ≡ Ok d → d.group ≡ ballot.number
     go None e = let it : first_decision team ballot me t ≡ d = cc in ap (λ (z : Decision). z.group) (sym it)
     go (Some why) e = absurd (cc)
 
--- That number is promised, and not above what p promised; so p promised no other one.
-group_under : (team : Team) (now : Moment) (t : ℕ) (p : Process) (r : Run) → Ready p r.process → ComesUnder p (make_group team now t r).process
-group_under team now t p r k = go r.process.ballot refl
-  where
-    made : (ballot : Ballot) → Result Decision NoGroup → Run
-    made ballot o = elim o as (λ o. Run) [ Ok d ↦ group_begun team now ballot d t r | Err why ↦ r ]
-
-    begun : (ballot : Ballot) → r.process.ballot ≡ Some ballot → (o : Result Decision NoGroup) → group_made team ballot (member_of r.process.identity) t ≡ o → ComesUnder p (made ballot o).process
-    begun ballot is (Ok d) e = λ x last.
-        let it : d ≡ x = cc in
-        let number = group_number team ballot (member_of r.process.identity) t d e in
-        let held = k.held ballot is in
-        let low = k.since.ballot ballot is in
-        let more = k.since.promised in
-        let group : d.group ≡ p.vote.promised = omega arith in
-        inr (subst (λ (z : Decision). z.group ≡ p.vote.promised) it group)
-    begun ballot is (Err why) e = k.since.last
-
-    by_test : (ballot : Ballot) → r.process.ballot ≡ Some ballot → (test : Bool) → ComesUnder p (cond test (made ballot (group_made team ballot (member_of r.process.identity) t)) r).process
-    by_test ballot is true = begun ballot is (group_made team ballot (member_of r.process.identity) t) refl
-    by_test ballot is false = k.since.last
-
-    go : (o : Option Ballot) → r.process.ballot ≡ o → ComesUnder p (elim o as (λ o. Run) [ None ↦ r | Some ballot ↦ cond (is_complete team t ballot) (made ballot (group_made team ballot (member_of r.process.identity) t)) r ]).process
-    go None is = k.since.last
-    go (Some ballot) is = by_test ballot is (is_complete team t ballot)
-
 -- what changes no belief
 same_belief : (p q s : Process) → s.belief ≡ q.belief → ComesUnder p q → ComesUnder p s
 same_belief p q s e k d is = k d (ap last_of (sym e) ∙ is)
+
+-- That number is promised, and not above what p promised; so p promised no other one.
+group_under : (team : Team) (now : Moment) (t : ℕ) (p : Process) (r : Run) → Ready p r.process → ComesUnder p (make_group team now t r).process
+group_under team now t p r k = by_group team now t r (λ s. ComesUnder p s.process) k.since.last
+    (λ ballot d is full e x last.
+    let it : d ≡ x = cc in
+    let number = group_number team ballot r.process.log (payloads_of r.process.waiting) (member_of r.process.identity) t d e in
+    let held = k.held ballot is in
+    let low = k.since.ballot ballot is in
+    let more = k.since.promised in
+    let group : d.group ≡ p.vote.promised = omega arith in
+    inr (subst (λ (z : Decision). z.group ≡ p.vote.promised) it group))
+    (λ best source id. same_belief p r.process (decision_held now ToGroup best source id r).process refl k.since.last)
 
 election_belief : (team : Team) (now : Moment) (t : ℕ) (r : Run) → (begin_election team now t r).process.belief ≡ r.process.belief
 election_belief team now t r = go (holds_election team now t r.process)
@@ -253,11 +242,14 @@ repeat_belief team now r = go (last_decision r.process)
     go None = refl
     go (Some last) = by_test last (is_repeated team r.process last now.reading)
 
+ask_belief : (now : Moment) (r : Run) → (ask_again now r).process.belief ≡ r.process.belief
+ask_belief now r = by_asking now r (λ s. s.process.belief ≡ r.process.belief) refl (λ id source. refl)
+
 beat_belief : (team : Team) (now : Moment) (r : Run) → (give_beat team now r).process.belief ≡ r.process.belief
 beat_belief team now r = go (is_due team.pace now.h r.process.beat)
   where
     go : (due : Bool) → (cond due (beat_given team now r) r).process.belief ≡ r.process.belief
-    go true = repeat_belief team now (beat_marked now.h r)
+    go true = repeat_belief team now (ask_again now (beat_marked now.h r)) ∙ ask_belief now (beat_marked now.h r)
     go false = refl
 
 timed_under : (team : Team) (now : Moment) (t : ℕ) (p : Process) (r : Run) → IsLow p → Since p r.process → ComesUnder p (timed_duties team now t r).process

@@ -1,6 +1,6 @@
 -- What a part of a step may do to its process and to what was written down of the schedule. The laws on groups are proved of these
 -- effects alone; each part of a step is a row of them. An effect says what the rule says, and not who happens to reach it.
-use Rattle.std.specs.Prelude.{ℕ, ◌≤◌, ◌<◌, ◌≡◌, true, false, List, [], ◌∷◌, ◌++◌, map, Option, Some, None, Ok}
+use Rattle.std.specs.Prelude.{ℕ, ◌≤◌, ◌<◌, ◌≡◌, true, false, List, ◌∷◌, ◌++◌, map, Option, Some, None, Ok}
 use Rattle.std.specs.List.{AllByRecursion}
 use Rattle.std.specs.Option.{option_map}
 use Rattle.tw_num.specs.declared.moment.Moment.{Moment}
@@ -20,8 +20,10 @@ use Rattle.tw_types.specs.Flag.{is_up}
 use Rattle.tw_types.specs.Groups.{group_made, group_making, next_making}
 use Rattle.tw_types.specs.Promises.{is_quarantined, is_in_window}
 use Rattle.tw_types.specs.Slots.{owner}
-use Rattle.tw_types.specs.Taking.{taken}
 use Rattle.tw_types.specs.Turns.{is_turn, next_decision}
+use Rattle.tw_types.specs.Refusals.{first_refusal}
+use Rattle.tw_types.specs.Waiting.{payloads_of}
+use Rattle.tw_types.specs.Logs.{list_tests, first_missing}
 use Rattle.tw_types.specs.Process.{Process}
 use Rattle.tw_machine.specs.Dispatches.{Dispatch, sent_at}
 use Rattle.tw_machine.specs.History.{Promised, Up, promise_item, make_item, up_at, promises_on, makes_on, makes_by, up_by, history}
@@ -29,6 +31,8 @@ use Rattle.tw_machine.specs.History as items
 use Rattle.tw_machine.specs.Run.{Run}
 use Rattle.tw_machine.specs.World.{Deed, world}
 use Rattle.tw_machine.specs.Standing.{member_of, last_decision, report_by}
+use Rattle.tw_machine.specs.Entering.{entered}
+use Rattle.tw_machine.specs.Deciding.{supporting, entries_to_add}
 
 -- what was written down of a schedule: its history, the newest item first, and what was sent, in its order
 pub record Written : Type 0 where
@@ -93,7 +97,7 @@ NotBelow None after = Unit {0}
 NotBelow (Some before) None = ⊥
 NotBelow (Some before) (Some after) = before ≤ after
 
--- a datagram's body says what its sender has: its newest promise, or its last decision
+-- a datagram's body says what its sender has: its newest promise, or its last decision; a sign of life, an election and a question say nothing
 abbrev pub Says : Here → State → Body → Type 0
 Says here x (bodies.Promise number report decision) =
     (older : List Promised) × (x.written.promises ≡ promise_item here.life here.step (record { number = number; report = report; decision = decision }) ∷ older)
@@ -101,7 +105,7 @@ Says here x (bodies.Decision d) = last_decision x.process ≡ Some d
 Says here x (bodies.Update kept) = ⊥
 Says here x (bodies.NoDecision number group turn skip reports best) = ⊥
 Says here x (bodies.Election number why) = Unit {0}
-Says here x (bodies.Ask want) = ⊥
+Says here x (bodies.Ask want) = Unit {0}
 Says here x (bodies.State group position total offset bytes) = ⊥
 Says here x (bodies.Sync ready) = Unit {0}
 
@@ -111,7 +115,8 @@ pub record IsToldBy (here : Here) (x : State) (d : ℕ × Datagram) : Type 0 whe
   pub incarnation : d.1.head.incarnation ≡ x.process.identity.incarnation
   pub says : Says here x d.1.body
 
--- Nothing of a vote, a ballot or a belief changes, and nothing is promised or made. The clock may have been read, and datagrams sent.
+-- Nothing of a vote, a ballot or a belief changes, nor where the list begins and ends, and nothing is promised or made. The clock may have
+-- been read, datagrams sent, and what waits at the process may be another.
 pub record Keeps (here : Here) (x y : State) : Type 0 where
   pub identity : y.process.identity ≡ x.process.identity
   pub vote : y.process.vote ≡ x.process.vote
@@ -156,7 +161,8 @@ pub record Ballots (here : Here) (x y : State) : Type 0 where
   pub written : y.written ≡ x.written
   pub reason : BallotReason here x y
 
--- A received decision is taken: it is above what the process took or followed, names it, and is of the group that it promised.
+-- A received decision is taken: it is above what the process took or followed, names it, and is of the group that it promised; and its
+-- list goes on that of the process, where no payload is missing for that.
 pub record Takes (here : Here) (x y : State) : Type 0 where
   pub taken_decision : Decision
   pub head : Head
@@ -164,15 +170,18 @@ pub record Takes (here : Here) (x y : State) : Type 0 where
   pub newer : is_older (or_none (view_decision x.process.belief)).group (or_none (view_decision x.process.belief)).turn taken_decision.group taken_decision.turn ≡ true
   pub seat : has_seat (member_of x.process.identity) taken_decision ≡ true
   pub promised : taken_decision.group ≡ x.process.vote.promised
-  pub process : y.process ≡ record (x.process) { belief = taken taken_decision }
+  pub fits : first_refusal (list_tests x.process.log taken_decision) ≡ None
+  pub whole : first_missing x.process.log (payloads_of x.process.waiting) taken_decision ≡ None
+  pub process : y.process ≡ entered taken_decision x.process
   pub written : y.written ≡ x.written
 
--- why a decision is made: it is the process's turn, or its ballot is complete, which the group takes away
+-- why a decision is made: it is the process's turn, which adds what it can to the last one; or its ballot is complete, which the group
+-- takes away
 pub data MakeReason (here : Here) (making : Making) (t : ℕ) (x y : State) : Type 0 where
   Next : (last : Decision) → last_decision x.process ≡ Some last → is_turn here.team (member_of x.process.identity) (Some last) x.process.vote.promised t ≡ true
-      → making ≡ next_making last (next_decision [] last t x.process.identity.who) → y.process.ballot ≡ x.process.ballot → MakeReason here making t x y
+      → making ≡ next_making last (next_decision (entries_to_add here.team t last x.process) last t x.process.identity.who) → y.process.ballot ≡ x.process.ballot → MakeReason here making t x y
   Group : (ballot : Ballot) → x.process.ballot ≡ Some ballot → is_complete here.team t ballot ≡ true
-      → group_made here.team ballot (member_of x.process.identity) t ≡ Ok making.decision → making ≡ group_making ballot making.decision
+      → group_made here.team ballot x.process.log (payloads_of x.process.waiting) (member_of x.process.identity) t ≡ Ok making.decision → making ≡ group_making ballot making.decision
       → y.process.ballot ≡ None → MakeReason here making t x y
 
 -- A decision of the promised group is made at a reading, supported and taken by its maker.
@@ -184,11 +193,7 @@ pub record Makes (here : Here) (x y : State) : Type 0 where
   pub made : making.decision.made ≡ t
   pub group : making.decision.group ≡ x.process.vote.promised
   pub reason : MakeReason here making t x y
-  pub process : y.process ≡ record (x.process) {
-    vote = record (x.process.vote) { support = Some t };
-    belief = taken making.decision;
-    ballot = y.process.ballot;
-  }
+  pub process : y.process ≡ record (entered making.decision (supporting t x.process)) { ballot = y.process.ballot }
   pub written : y.written ≡ record (x.written) { makes = make_item (member_of x.process.identity) here.life here.step making ∷ x.written.makes }
 
 -- A process is up at its reading, after its step.

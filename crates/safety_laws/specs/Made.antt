@@ -5,6 +5,7 @@ use Rattle.tw_types.specs.declared.team.Team.{Team}
 use Rattle.tw_types.specs.declared.ballot.Ballot.{Ballot}
 use Rattle.tw_types.specs.declared.datagram.Body.{Body}
 use Rattle.tw_types.specs.declared.datagram.Body.TheVariants as bodies
+use Rattle.tw_types.specs.declared.message.Entry.{Entry}
 use Rattle.tw_types.specs.declared.message.Decision.{Decision}
 use Rattle.tw_types.specs.declared.message.Member.{Member}
 use Rattle.tw_types.specs.declared.message.Report.{Report}
@@ -15,6 +16,7 @@ use Rattle.tw_types.specs.Decisions.{or_none, is_older, has_seat, decision_lengt
 use Rattle.tw_types.specs.Process.{Process}
 use Rattle.tw_types.specs.Reports.{is_by_informed, is_consistent}
 use Rattle.tw_types.specs.Slots.{owner, seat_after}
+use Rattle.tw_types.specs.Appending.{raised}
 use Rattle.tw_types.specs.Turns.{supported}
 use Rattle.tw_machine.specs.Dispatches.{Dispatch}
 use Rattle.tw_machine.specs.History.{Promised, Make, life}
@@ -80,7 +82,7 @@ carried (bodies.Sync ready) = None
 -- ---- decisions follow each other
 
 -- A next decision follows the last one of its maker, who has the seat after that one's maker: same group, start and members, the
--- next turn, and the supports of before but the maker's own.
+-- next turn, and the supports of before but the maker's own. Each seat's next number is higher by its member's entries that were added.
 pub record Follows (older : List Make) (m : Make) (last : Decision) : Type 0 where
   pub was_made : WasMade older last
   pub before : m.making.before ≡ Some last
@@ -90,7 +92,9 @@ pub record Follows (older : List Make) (m : Make) (last : Decision) : Type 0 whe
   pub start : m.making.decision.start ≡ last.start
   pub maker : m.making.decision.maker ≡ m.who
   pub ring : (seat : Seat) × (seat_after last.maker last.seats.items ≡ Some seat) × (seat.member ≡ m.member)
-  pub seats : m.making.decision.seats.items ≡ map (supported m.who (record { ack = decision_length m.making.decision; at = m.making.decision.made })) last.seats.items
+  pub entries : List Entry
+  pub longer : decision_length m.making.decision ≡ decision_length last + length entries
+  pub seats : m.making.decision.seats.items ≡ map (supported m.who (record { ack = decision_length m.making.decision; at = m.making.decision.made })) (map (raised entries) last.seats.items)
 
 -- ---- groups come from promises
 

@@ -2,6 +2,7 @@
 use Rattle.std.proofs.Common.{◌≡◌, refl, ap, ◌∙◌, ℕ, Bool, true, cond, Option, Some, None, Result, Ok, Err}
 use Rattle.tw_num.specs.declared.moment.Moment.{Moment}
 use Rattle.tw_types.specs.declared.team.Team.{Team}
+use Rattle.tw_types.specs.declared.message.UpdateId.{UpdateId}
 use Rattle.tw_types.specs.declared.message.Decision.{Decision}
 use Rattle.tw_types.specs.declared.datagram.Head.{Head}
 use Rattle.tw_types.specs.declared.datagram.Why.{Why}
@@ -10,11 +11,15 @@ use Rattle.tw_types.specs.declared.answer.Reason.{Reason}
 use Rattle.tw_types.specs.declared.answer.Reason.TheVariants.{Old}
 use Rattle.tw_types.specs.Refusals.{first_refusal}
 use Rattle.tw_types.specs.Votes.{Promise}
+use Rattle.tw_types.specs.Waiting.{payloads_of}
+use Rattle.tw_types.specs.Logs.{list_tests, first_missing}
+use Rattle.tw_types.specs.Process.{ToTake}
 use Rattle.tw_types.specs.Ballots.{wants}
 use Rattle.tw_machine.specs.Run.{Run, Ruled, done, dropped}
 use Rattle.tw_machine.specs.Standing.{promise_by}
 use Rattle.tw_machine.specs.Control.{rate_of, timely_reading, if_timely}
-use Rattle.tw_machine.specs.Taking.{decision_tests, decision_taken, take_decision}
+use Rattle.tw_machine.specs.Entering.{decision_entered, decision_held, dropped_missing, enter_decision}
+use Rattle.tw_machine.specs.Taking.{decision_tests, take_decision}
 use Rattle.tw_machine.specs.Electing.{answer_tests, election_answered, answer_election}
 use Rattle.tw_machine.specs.Grouping.{promise_added, take_promise}
 use Rattle.tw_machine.specs.Rules.{kind_rule}
@@ -26,9 +31,23 @@ unopposed : (o : Option Reason) (a b : Run) → o ≡ None → (elim o as (λ o.
 unopposed None a b e = refl
 unopposed (Some reason) a b e = absurd (cc)
 
-pub decision_is_done : (team : Team) (now : Moment) (head : Head) (d : Decision) (r : Run) (t : ℕ) → timely_reading (rate_of team now head) now.reading ≡ Ok t → first_refusal (decision_tests r.process d) ≡ None → (kind_rule team now head (bodies.Decision d) r).dropped ≡ None
+-- a decision that no test of the list refuses, and that lacks no payload, enters the list
+entered_is_done : (now : Moment) (d : Decision) (r : Run) → first_refusal (list_tests r.process.log d) ≡ None → first_missing r.process.log (payloads_of r.process.waiting) d ≡ None → (enter_decision now d r).dropped ≡ None
+entered_is_done now d r fits whole =
+    ap (λ (o : Option Reason). (elim o as (λ o. Ruled) [ None ↦ by_payload (first_missing r.process.log (payloads_of r.process.waiting) d) | Some reason ↦ dropped reason r ]).dropped) fits
+    ∙ ap (λ (o : Option UpdateId). (by_payload o).dropped) whole
+  where
+    by_payload : Option UpdateId → Ruled
+    by_payload o = elim o as (λ o. Ruled) [ None ↦ done (decision_entered d r) | Some id ↦ dropped_missing id (decision_held now ToTake d d.maker id r) ]
+
+pub decision_is_done : (team : Team) (now : Moment) (head : Head) (d : Decision) (r : Run) (t : ℕ) → timely_reading (rate_of team now head) now.reading ≡ Ok t
+    → first_refusal (decision_tests r.process d) ≡ None → first_refusal (list_tests r.process.log d) ≡ None → first_missing r.process.log (payloads_of r.process.waiting) d ≡ None
+    → (kind_rule team now head (bodies.Decision d) r).dropped ≡ None
 unfolding kind_rule
-decision_is_done team now head d r t e none = ap (λ (k : Ruled). k.dropped) (timely_rule team now head (λ t. take_decision d) r t e) ∙ unopposed (first_refusal (decision_tests r.process d)) (decision_taken d r) r none
+decision_is_done team now head d r t e none fits whole =
+    ap (λ (k : Ruled). k.dropped) (timely_rule team now head (λ t. take_decision now d) r t e)
+    ∙ ap (λ (o : Option Reason). (elim o as (λ o. Ruled) [ None ↦ enter_decision now d r | Some reason ↦ dropped reason r ]).dropped) none
+    ∙ entered_is_done now d r fits whole
 
 pub election_is_done : (team : Team) (now : Moment) (head : Head) (number : ℕ) (why : Why) (r : Run) (t : ℕ) → timely_reading (rate_of team now head) now.reading ≡ Ok t
     → first_refusal (answer_tests team now head.from number why t r.process) ≡ None → (kind_rule team now head (bodies.Election number why) r).dropped ≡ None

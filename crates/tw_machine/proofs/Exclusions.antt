@@ -1,11 +1,12 @@
 -- Which duties exclude each other in one step.
-use Rattle.std.proofs.Common.{◌≡◌, ◌≢◌, refl, sym, ap, ◌∙◌, ℕ, Bool, true, false, cond, Option, Some, None, Ok, Err, arith, ◌<◌, ◌≤◌}
+use Rattle.std.proofs.Common.{◌≡◌, ◌≢◌, refl, sym, ap, ◌∙◌, ℕ, Bool, true, false, cond, Option, Some, None, arith, ◌<◌, ◌≤◌}
 use Rattle.std.proofs.lemmas.Bool.Decides.{nat_tests}
 use Rattle.tw_num.specs.declared.moment.Moment.{Moment}
 use Rattle.tw_types.specs.declared.team.Team.{Team}
 use Rattle.tw_types.specs.declared.message.Decision.{Decision}
 use Rattle.tw_types.specs.declared.ballot.Ballot.{Ballot}
 use Rattle.tw_types.specs.Ballots.{is_over, is_complete}
+use Rattle.tw_types.specs.Waiting.{payloads_of}
 use Rattle.tw_types.specs.Groups.{group_made}
 use Rattle.tw_types.specs.Turns.{is_turn}
 use Rattle.tw_types.specs.Process.{Process}
@@ -13,7 +14,7 @@ use Rattle.tw_machine.specs.Run.{Run}
 use Rattle.tw_machine.specs.Standing.{member_of, last_decision, report_by}
 use Rattle.tw_machine.specs.Electing.{has_spent_ballot, ballot_dropped, drop_ballot, holds_election, election_begun, begin_election}
 use Rattle.tw_machine.specs.Deciding.{has_turn, turn_taken, take_turn}
-use Rattle.tw_machine.specs.Grouping.{group_begun, make_group}
+use Rattle.tw_machine.specs.Grouping.{begun_or_held, make_group}
 use Rattle.tw_machine.specs.Sending.{sent_to_others}
 use Rattle.tw_machine.specs.Beating.{is_repeated, repeat_decision}
 use Rattle.tw_types.specs.declared.datagram.Body.TheVariants as bodies
@@ -60,7 +61,7 @@ turn_keeps_ballot team now t r = go (last_decision r.process)
 
 -- without a ballot no group is made
 pub no_group : (team : Team) (now : Moment) (t : ℕ) (r : Run) → r.process.ballot ≡ None → make_group team now t r ≡ r
-no_group team now t r none = ap (λ (o : Option Ballot). elim o as (λ o. Run) [ None ↦ r | Some ballot ↦ cond (is_complete team t ballot) (elim (group_made team ballot (member_of r.process.identity) t) as (λ m. Run) [ Ok d ↦ group_begun team now ballot d t r | Err why ↦ r ]) r ]) none
+no_group team now t r none = ap (λ (o : Option Ballot). elim o as (λ o. Run) [ None ↦ r | Some ballot ↦ cond (is_complete team t ballot) (begun_or_held team now ballot t (group_made team ballot r.process.log (payloads_of r.process.waiting) (member_of r.process.identity) t) r) r ]) none
 
 -- So whoever makes a next decision makes no group in the same step.
 pub turn_or_group : (team : Team) (now : Moment) (t : ℕ) (r : Run) → has_turn team t (drop_ballot team t r).process ≡ true

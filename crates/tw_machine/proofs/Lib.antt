@@ -5,6 +5,7 @@ pub mod Lines
 pub mod LineNumbers
 pub mod LineLaws
 pub mod Started
+pub mod Ends
 pub mod Parts
 pub mod Exclusions
 pub mod Complete
@@ -13,6 +14,9 @@ mod Worked
 mod GroupsWorked
 mod HistoryWorked
 mod Forged
+mod EntriesWorked
+mod TimeEdges
+mod MayFollow
 mod Decided
 mod SafeTests
 mod SafeWords

@@ -8,31 +8,33 @@ use Rattle.tw_types.specs.declared.datagram.Head.{Head}
 use Rattle.tw_types.specs.declared.datagram.Body.{Body}
 use Rattle.tw_types.specs.declared.datagram.Body.TheVariants as bodies
 use Rattle.tw_types.specs.declared.datagram.Datagram.{Datagram}
+use Rattle.tw_types.specs.declared.message.UpdateId.{UpdateId}
 use Rattle.tw_types.specs.declared.message.Decision.{Decision}
-use Rattle.tw_types.specs.declared.ballot.Ballot.{Ballot}
 use Rattle.tw_types.specs.declared.datagram.Why.{Why}
 use Rattle.tw_types.specs.declared.answer.Reason.{Reason}
 use Rattle.tw_types.specs.declared.answer.Reason.TheVariants as reasons
 use Rattle.tw_types.specs.Refusals.{Refusal, first_refusal}
 use Rattle.tw_types.specs.Votes.{Promise, Making}
-use Rattle.tw_types.specs.Ballots.{wants, is_complete}
+use Rattle.tw_types.specs.Ballots.{wants}
 use Rattle.tw_types.specs.Elections.{why_begun, own_promise}
-use Rattle.tw_types.specs.Groups.{NoGroup, group_made}
-use Rattle.tw_types.specs.Process.{Process}
+use Rattle.tw_types.specs.Logs.{list_tests}
+use Rattle.tw_types.specs.Process.{Process, Purpose, ToTake, ToGroup}
 use Rattle.tw_machine.specs.Event.{Event}
 use Rattle.tw_machine.specs.Run.{Run, Ruled, done, dropped}
 use Rattle.tw_machine.specs.Sending.{datagram_to, others, sent_to, sent_to_others}
-use Rattle.tw_machine.specs.Standing.{member_of, last_decision, report_by, promise_by}
+use Rattle.tw_machine.specs.Standing.{last_decision, report_by, promise_by}
 use Rattle.tw_machine.specs.Control.{rate_of, timely_reading, if_timely}
-use Rattle.tw_machine.specs.Taking.{decision_tests, decision_taken, take_decision}
+use Rattle.tw_machine.specs.Entering.{decision_entered, held_for, decision_held}
+use Rattle.tw_machine.specs.Taking.{decision_tests, take_decision}
 use Rattle.tw_machine.specs.Electing.{promised, answer_tests, election_answered, answer_election, ballot_dropped, has_spent_ballot, drop_ballot, holds_election, election_begun, begin_election}
 use Rattle.tw_machine.specs.Deciding.{making_kept, decision_made, has_turn, turn_taken, take_turn}
 use Rattle.tw_machine.specs.Grouping.{promise_added, take_promise, group_begun, make_group}
-use Rattle.tw_machine.specs.Beating.{is_due, beat_marked, is_repeated, repeat_decision, beat_given, give_beat}
+use Rattle.tw_machine.specs.Beating.{is_due, beat_marked, is_repeated, repeat_decision, ask_again, beat_given, give_beat}
 use Rattle.tw_machine.specs.Rules.{kind_rule, rule}
 use Rattle.tw_machine.specs.Duties.{timed_duties, duties_if_timed, duties}
 use Rattle.tw_machine.specs.Step.{moment_of, read_by, ruled_by, has_duties, ended_by}
 use Rattle.tw_machine.proofs.Tables.{all_joined, all_mapped, all_of}
+use Rattle.tw_machine.proofs.Ends.{by_taking, by_group, by_asking}
 
 -- From one run to a later one of the same event: it is the same process, which knows the same of time; what is sent besides is
 -- told by its own head; and nothing is delivered.
@@ -66,6 +68,15 @@ others_sent n now body r = record {
   earlies = refl;
 }
 
+one_sent : (now : Moment) (body : Body) (to : ℕ) (r : Run) → GoesOn now r (sent_to now body to r)
+one_sent now body to r = record {
+  identity = refl;
+  timing = refl;
+  sends = λ P own before. all_joined P r.out.sends _ before (own to body, tt);
+  passes = refl;
+  earlies = refl;
+}
+
 -- a change of what a process promised, believes, holds and printed, which sends nothing
 pub record IsInner (a b : Run) : Type 0 where
   pub identity : b.process.identity ≡ a.process.identity
@@ -86,6 +97,13 @@ inner_on now a b same = record {
 -- such a change, and then a datagram to all others
 inner_then_others : (n : ℕ) (now : Moment) (body : Body) (a b : Run) → IsInner a b → GoesOn now a (sent_to_others n now body b)
 inner_then_others n now body a b same = then_on now a b (sent_to_others n now body b) (inner_on now a b same) (others_sent n now body b)
+
+-- a decision is held, and an update asked for
+held_on : (now : Moment) (purpose : Purpose) (d : Decision) (source : ℕ) (id : UpdateId) (r : Run) → GoesOn now r (decision_held now purpose d source id r)
+held_on now purpose d source id r = then_on now r held (decision_held now purpose d source id r) (inner_on now r held (record { identity = refl; timing = refl; sends = refl; passes = refl; earlies = refl })) (one_sent now _ source held)
+  where
+    held : Run
+    held = record r { process = held_for purpose d source r.process }
 
 -- the duties
 
@@ -111,20 +129,10 @@ turn_on team now t r = go (last_decision r.process)
     go (Some last) = by_test last (has_turn team t r.process)
 
 group_on : (team : Team) (now : Moment) (t : ℕ) (r : Run) → GoesOn now r (make_group team now t r)
-group_on team now t r = go r.process.ballot
-  where
-    begun : (ballot : Ballot) → (made : Result Decision NoGroup) → GoesOn now r (elim made as (λ m. Run) [ Ok d ↦ group_begun team now ballot d t r | Err why ↦ r ])
-    begun ballot (Ok d) = then_on now r (ballot_dropped r) (group_begun team now ballot d t r)
-        (inner_on now r (ballot_dropped r) (record { identity = refl; timing = refl; sends = refl; passes = refl; earlies = refl })) (made_on team now _ t (ballot_dropped r))
-    begun ballot (Err why) = stays now r
-
-    by_test : (ballot : Ballot) → (test : Bool) → GoesOn now r (cond test (elim (group_made team ballot (member_of r.process.identity) t) as (λ m. Run) [ Ok d ↦ group_begun team now ballot d t r | Err why ↦ r ]) r)
-    by_test ballot true = begun ballot (group_made team ballot (member_of r.process.identity) t)
-    by_test ballot false = stays now r
-
-    go : (o : Option Ballot) → GoesOn now r (elim o as (λ o. Run) [ None ↦ r | Some ballot ↦ cond (is_complete team t ballot) (elim (group_made team ballot (member_of r.process.identity) t) as (λ m. Run) [ Ok d ↦ group_begun team now ballot d t r | Err why ↦ r ]) r ])
-    go None = stays now r
-    go (Some ballot) = by_test ballot (is_complete team t ballot)
+group_on team now t r = by_group team now t r (GoesOn now r) (stays now r)
+    (λ ballot d is full e. then_on now r (ballot_dropped r) (group_begun team now ballot d t r)
+    (inner_on now r (ballot_dropped r) (record { identity = refl; timing = refl; sends = refl; passes = refl; earlies = refl })) (made_on team now _ t (ballot_dropped r)))
+    (λ best source id. held_on now ToGroup best source id r)
 
 election_on : (team : Team) (now : Moment) (t : ℕ) (r : Run) → GoesOn now r (begin_election team now t r)
 election_on team now t r = go (holds_election team now t r.process)
@@ -156,15 +164,22 @@ repeat_on team now r = go (last_decision r.process)
     go None = stays now r
     go (Some last) = by_test last (is_repeated team r.process last now.reading)
 
+ask_on : (now : Moment) (r : Run) → GoesOn now r (ask_again now r)
+ask_on now r = by_asking now r (GoesOn now r) (stays now r) (λ id source. one_sent now _ source r)
+
 beat_on : (team : Team) (now : Moment) (r : Run) → GoesOn now r (give_beat team now r)
 beat_on team now r = go (is_due team.pace now.h r.process.beat)
   where
     marked : Run
     marked = beat_marked now.h r
 
+    again : Run
+    again = ask_again now marked
+
     go : (due : Bool) → GoesOn now r (cond due (beat_given team now r) r)
     go true = then_on now r marked (beat_given team now r) (inner_on now r marked (record { identity = refl; timing = refl; sends = refl; passes = refl; earlies = refl }))
-        (then_on now marked (repeat_decision team now marked) (beat_given team now r) (repeat_on team now marked) (others_sent team.n now (bodies.Sync None) (repeat_decision team now marked)))
+        (then_on now marked again (beat_given team now r) (ask_on now marked)
+        (then_on now again (repeat_decision team now again) (beat_given team now r) (repeat_on team now again) (others_sent team.n now (bodies.Sync None) (repeat_decision team now again))))
     go false = stays now r
 
 pub duties_on : (team : Team) (now : Moment) (r : Run) → GoesOn now r (duties team now r)
@@ -173,21 +188,10 @@ duties_on team now r = then_on now r (duties_if_timed team now now.reading r) (d
 
 -- the rules
 
-decision_on : (now : Moment) (d : Decision) (r : Run) → GoesOn now r (take_decision d r).run
-decision_on now d r = go (first_refusal (decision_tests r.process d))
-  where
-    go : (o : Option Reason) → GoesOn now r (elim o as (λ o. Ruled) [ None ↦ done (decision_taken d r) | Some reason ↦ dropped reason r ]).run
-    go None = inner_on now r (decision_taken d r) (record { identity = refl; timing = refl; sends = refl; passes = refl; earlies = refl })
-    go (Some reason) = stays now r
-
-one_sent : (now : Moment) (body : Body) (to : ℕ) (r : Run) → GoesOn now r (sent_to now body to r)
-one_sent now body to r = record {
-  identity = refl;
-  timing = refl;
-  sends = λ P own before. all_joined P r.out.sends _ before (own to body, tt);
-  passes = refl;
-  earlies = refl;
-}
+decision_on : (now : Moment) (d : Decision) (r : Run) → GoesOn now r (take_decision now d r).run
+decision_on now d r = by_taking now d r (λ k. GoesOn now r k.run)
+    (λ free fits whole. inner_on now r (decision_entered d r) (record { identity = refl; timing = refl; sends = refl; passes = refl; earlies = refl }))
+    (λ id. held_on now ToTake d d.maker id r) (λ reason e. stays now r) (λ reason e. stays now r)
 
 answer_on : (team : Team) (now : Moment) (from number : ℕ) (why : Why) (t : ℕ) (r : Run) → GoesOn now r (answer_election team now from number why t r).run
 answer_on team now from number why t r = go (first_refusal (answer_tests team now from number why t r.process))
@@ -217,7 +221,7 @@ timely_on team now head rule r each = go (timely_reading (rate_of team now head)
 kind_on : (team : Team) (now : Moment) (head : Head) (body : Body) (r : Run) → GoesOn now r (kind_rule team now head body r).run
 unfolding kind_rule
 kind_on team now head (bodies.Update kept) r = stays now r
-kind_on team now head (bodies.Decision d) r = timely_on team now head (λ t. take_decision d) r (λ t. decision_on now d r)
+kind_on team now head (bodies.Decision d) r = timely_on team now head (λ t. take_decision now d) r (λ t. decision_on now d r)
 kind_on team now head (bodies.NoDecision number group turn skip reports best) r = stays now r
 kind_on team now head (bodies.Election number why) r = timely_on team now head (answer_election team now head.from number why) r (λ t. answer_on team now head.from number why t r)
 kind_on team now head (bodies.Promise number report d) r = timely_on team now head (λ t. take_promise (record { number = number; report = report; decision = d })) r (λ t. promise_on now (record { number = number; report = report; decision = d }) r)
@@ -245,9 +249,10 @@ by_reason : (o : Option Reason) (reason : Reason) (a b : Run) → o ≢ Some rea
 by_reason None reason a b other e = absurd (cc)
 by_reason (Some r) reason a b other e = other e
 
-decision_agrees : (d : Decision) (r : Run) → (take_decision d r).dropped ≢ Some reasons.Disjoint
-decision_agrees d r e = by_reason (first_refusal (decision_tests r.process d)) reasons.Disjoint (decision_taken d r) r
-    (other_refusal reasons.Disjoint (decision_tests r.process d) ((λ e. cc), ((λ e. cc), ((λ e. cc), ((λ e. cc), ((λ e. cc), ((λ e. cc), tt))))))) e
+decision_agrees : (now : Moment) (d : Decision) (r : Run) → (take_decision now d r).dropped ≢ Some reasons.Disjoint
+decision_agrees now d r = by_taking now d r (λ k. k.dropped ≢ Some reasons.Disjoint) (λ free fits whole e. absurd (cc)) (λ id e. absurd (cc))
+    (λ reason is e. other_refusal reasons.Disjoint (list_tests r.process.log d) ((λ e. cc), ((λ e. cc), tt)) (is ∙ e))
+    (λ reason is e. other_refusal reasons.Disjoint (decision_tests r.process d) ((λ e. cc), ((λ e. cc), ((λ e. cc), ((λ e. cc), tt)))) (is ∙ e))
 
 timely_agrees : (team : Team) (now : Moment) (head : Head) (rule : ℕ → Run → Ruled) (r : Run) → ((t : ℕ) → (rule t r).dropped ≢ Some reasons.Disjoint) → (if_timely team now head rule r).dropped ≢ Some reasons.Disjoint
 timely_agrees team now head rule r each = go (rate_of team now head) now.reading
@@ -272,7 +277,7 @@ promise_agrees given r e = go (wants given r.process.ballot) e
 kind_agrees : (team : Team) (now : Moment) (head : Head) (body : Body) (r : Run) → (kind_rule team now head body r).dropped ≢ Some Reason.Disjoint
 unfolding kind_rule
 kind_agrees team now head (bodies.Update kept) r e = absurd (cc)
-kind_agrees team now head (bodies.Decision d) r e = timely_agrees team now head (λ t. take_decision d) r (λ t. decision_agrees d r) e
+kind_agrees team now head (bodies.Decision d) r e = timely_agrees team now head (λ t. take_decision now d) r (λ t. decision_agrees now d r) e
 kind_agrees team now head (bodies.NoDecision number group turn skip reports best) r e = absurd (cc)
 kind_agrees team now head (bodies.Election number why) r e = timely_agrees team now head (answer_election team now head.from number why) r (λ t. answer_agrees team now head.from number why t r) e
 kind_agrees team now head (bodies.Promise number report d) r e = timely_agrees team now head (λ t. take_promise (record { number = number; report = report; decision = d })) r (λ t. promise_agrees (record { number = number; report = report; decision = d }) r) e

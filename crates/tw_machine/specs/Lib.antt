@@ -10,6 +10,7 @@ pub mod Sending
 pub mod Beating
 pub mod Standing
 pub mod Control
+pub mod Entering
 pub mod Taking
 pub mod Electing
 pub mod Deciding

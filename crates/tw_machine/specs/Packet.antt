@@ -1,6 +1,5 @@
 -- Which packets a process takes.
-use Rattle.std.specs.Prelude.{ℕ, nat_lt, ◌==◌, Bool, true, false, not, ◌&&◌, ◌||◌, if◌then◌else◌, length, Option, Some, None, Result, Ok, Err}
-use Rattle.tw_types.specs.declared.message.Decision.{Decision}
+use Rattle.std.specs.Prelude.{ℕ, nat_lt, ◌==◌, Bool, true, false, not, ◌||◌, if◌then◌else◌, Result, Ok, Err}
 use Rattle.tw_types.specs.declared.datagram.Head.{Head}
 use Rattle.tw_types.specs.declared.datagram.Body.{Body}
 use Rattle.tw_types.specs.declared.datagram.Body.TheVariants as bodies
@@ -10,21 +9,13 @@ use Rattle.tw_types.specs.declared.datagram.WireFault.TheVariants.{Kind}
 use Rattle.tw_types.specs.declared.answer.Reason.{Reason}
 use Rattle.tw_types.specs.declared.answer.Reason.TheVariants.{Wire, Stranger}
 
--- a decision that speaks of no update
-abbrev pub has_no_list : Decision → Bool
-has_no_list d = (d.low == 0) && (length d.window.items == 0)
-
-abbrev pub has_none_or_no_list : Option Decision → Bool
-has_none_or_no_list None = true
-has_none_or_no_list (Some d) = has_no_list d
-
 -- the datagrams that a process takes today
 abbrev pub is_taken : Body → Bool
 is_taken (bodies.Update kept) = false
-is_taken (bodies.Decision d) = has_no_list d
+is_taken (bodies.Decision d) = true
 is_taken (bodies.NoDecision number group turn skip reports best) = false
 is_taken (bodies.Election number why) = true
-is_taken (bodies.Promise number report d) = has_none_or_no_list d
+is_taken (bodies.Promise number report d) = true
 is_taken (bodies.Ask want) = false
 is_taken (bodies.State group position total offset bytes) = false
 is_taken (bodies.Sync ready) = true

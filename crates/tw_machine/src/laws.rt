@@ -17,6 +17,8 @@ ghost use Rattle.tw_types.specs.declared.datagram.Body.{Body};
 ghost use Rattle.tw_types.specs.Votes.{Promise};
 ghost use Rattle.tw_types.specs.Ballots.{wants};
 ghost use Rattle.tw_types.specs.Refusals.{first_refusal};
+ghost use Rattle.tw_types.specs.Waiting.{payloads_of};
+ghost use Rattle.tw_types.specs.Logs.{list_tests, first_missing};
 ghost use Rattle.tw_machine.specs.Run.{Run};
 ghost use Rattle.tw_machine.specs.Standing.{last_decision};
 ghost use Rattle.tw_machine.specs.Control.{rate_of, timely_reading};
@@ -55,10 +57,11 @@ pub fn duties_exclude_each_other()
 {}
 
 /// A decision, an election or a promise that comes in time, to a process that has a reading, is done where no test of its kind
-/// is against it.
+/// is against it; a decision only where also its list goes on that of the process and no payload is missing for that.
 pub fn timely_datagrams_are_done()
     ensures decision { (team : Team) (now : Moment) (head : Head) (d : Decision) (r : Run) (t : ℕ) →
         timely_reading (rate_of team now head) now.reading ≡ Ok t → first_refusal (decision_tests r.process d) ≡ None →
+        first_refusal (list_tests r.process.log d) ≡ None → first_missing r.process.log (payloads_of r.process.waiting) d ≡ None →
         (kind_rule team now head (Body.Decision d) r).dropped ≡ None }
     ensures election { (team : Team) (now : Moment) (head : Head) (number : ℕ) (why : Why) (r : Run) (t : ℕ) →
         timely_reading (rate_of team now head) now.reading ≡ Ok t →

@@ -1,10 +1,10 @@
 -- The definitions, computed on values that were worked out by hand.
-use Rattle.std.proofs.Common.{◌≡◌, refl, ℕ, ◌-◌, ◌^◌, Some, None}
+use Rattle.std.proofs.Common.{◌≡◌, refl, ℕ, ◌-◌, ◌^◌, arith, Some, None}
 use Rattle.std.specs.Prelude.{pos, negsuc}
 use Rattle.tw_num.specs.declared.interval.Interval.{Interval}
 use Rattle.tw_num.specs.Elapsed.{up, down}
 use Rattle.tw_num.specs.Interval.{aged, meet}
-use Rattle.tw_num.specs.Clock.{Clock, delayed, fresh, after_given, after_read, interval_at, reading_at, refusal}
+use Rattle.tw_num.specs.Clock.{Clock, IsNotBefore, delayed, fresh, after_given, after_read, interval_at, reading_at, refusal}
 use Rattle.tw_num.specs.Rate.{RoundTrip, echo_bound, interval_bound, rate, Timely, Late, Unrated}
 
 abbrev between : ℕ → ℕ → Interval
@@ -47,6 +47,13 @@ held = refl
 
 goes_on : reading_at 0 1000 6000 referred ≡ Some 5995
 goes_on = refl
+
+-- the clock may be read at its last reading, and not before
+at_its_last : IsNotBefore 5001 referred
+at_its_last = (omega arith, (omega arith, tt))
+
+before_its_last : IsNotBefore 5000 referred → ⊥
+before_its_last known = omega (arith, known.0)
 
 refused : refusal 0 5 (between 100 110) (after_given 0 5 (between 10 20) fresh) ≡ Some (record { have = between 9 21; got = between 99 111 })
 refused = refl

@@ -1,3 +1,4 @@
+pub mod Appended
 pub mod Up
 pub mod Lists
 mod Worked
@@ -5,3 +6,4 @@ mod FlagWorked
 mod EachKind
 mod WaitingWorked
 mod LogsWorked
+mod AppendingWorked

@@ -39,6 +39,8 @@ first_started : started 2 First 5 ≡ record {
   ballot = None;
   belief = Informed None;
   log = record { base = 0; entries = []; passed = 0 };
+  waiting = record { pending = []; held = None };
+  hold = None;
 }
 first_started = refl
 
@@ -50,5 +52,7 @@ started_again : started 0 Again 1000 ≡ record {
   ballot = None;
   belief = Blank None;
   log = record { base = 0; entries = []; passed = 0 };
+  waiting = record { pending = []; held = None };
+  hold = None;
 }
 started_again = refl

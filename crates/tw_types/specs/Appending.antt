@@ -1,6 +1,6 @@
 -- Which updates the maker of a next decision adds to the list: a condition on the whole list of what is added.
-use Rattle.std.specs.Prelude.{ℕ, ◌+◌, ◌-◌, ◌^◌, ◌≤◌, nat_le, nat_lt, ◌==◌, Bool, true, false, not, ◌&&◌, ◌||◌, if◌then◌else◌, List, [], ◌∷◌, ◌++◌, ◌≡◌, map, reverse, length, find, count_by, Contains}
-use Rattle.std.specs.List.{list_any, AllByRecursion}
+use Rattle.std.specs.Prelude.{ℕ, zero, suc, filter, unwrap_or, ◌+◌, ◌-◌, ◌^◌, ◌≤◌, nat_le, nat_lt, ◌==◌, Bool, true, false, not, ◌&&◌, ◌||◌, if◌then◌else◌, List, [], ◌∷◌, ◌++◌, ◌≡◌, map, reverse, length, find, count_by, Contains}
+use Rattle.std.specs.List.{list_any, list_all, flat_map, reduce, AllByRecursion}
 use Rattle.std.specs.Option.{option_map_or}
 use Rattle.tw_types.specs.declared.team.Team.{Team}
 use Rattle.tw_types.specs.declared.message.Member.{Member}
@@ -100,6 +100,45 @@ pub record MayBeAppended (team : Team) (t passed : ℕ) (d : Decision) (pending 
 pub record IsAppended (team : Team) (t passed : ℕ) (d : Decision) (pending : List Kept) (entries : List Entry) : Type 0 where
   pub may : MayBeAppended team t passed d pending entries
   pub longest : (others : List Entry) → MayBeAppended team t passed d pending others → length others ≤ length entries
+
+-- ---- and which list that is
+
+-- an update may come behind these entries, and none that may goes before it
+abbrev pub comes_next : Team → (t : ℕ) → Decision → List Kept → (before : List Entry) → Kept → Bool
+comes_next team t d pending before k =
+    may_come team t d before k && list_all (λ (other : Kept). not (may_come team t d before other && goes_before other.entry k.entry)) pending
+
+-- each of these updates comes next behind those before it
+abbrev pub come_in_turn : Team → (t : ℕ) → Decision → List Kept → (before : List Entry) → List Kept → Bool
+come_in_turn team t d pending before [] = true
+come_in_turn team t d pending before (k ∷ updates) =
+    comes_next team t d pending before k && come_in_turn team t d pending (before ++ added_entry d before k ∷ []) updates
+
+-- the entries of updates that are added in this order
+abbrev pub added_entries : Decision → (before : List Entry) → List Kept → List Entry
+added_entries d before [] = []
+added_entries d before (k ∷ updates) = added_entry d before k ∷ added_entries d (before ++ added_entry d before k ∷ []) updates
+
+-- all lists of at most so many of these updates
+abbrev pub lists_of : ℕ → List Kept → List (List Kept)
+lists_of zero updates = [] ∷ []
+lists_of (suc k) updates = [] ∷ flat_map (λ (k' : Kept). map (λ (rest : List Kept). k' ∷ rest) (lists_of k updates)) updates
+
+-- of lists the first of the longest
+abbrev pub longest : List (List Kept) → List Kept
+longest lists = unwrap_or (reduce (λ (a b : List Kept). if nat_lt (length a) (length b) then b else a) lists) []
+
+-- a list of updates may be appended
+abbrev pub may_append : Team → (t passed : ℕ) → Decision → List Kept → List Kept → Bool
+may_append team t passed d pending updates = come_in_turn team t d pending [] updates && has_room passed d pending (added_entries d [] updates)
+
+-- the updates that are appended: of all lists of pending ones that may be, the longest
+abbrev pub appended_updates : Team → (t passed : ℕ) → Decision → List Kept → List Kept
+appended_updates team t passed d pending = longest (filter (may_append team t passed d pending) (lists_of (length pending) pending))
+
+-- and their entries
+unfoldable pub appended_list : Team → (t passed : ℕ) → Decision → List Kept → List Entry
+appended_list team t passed d pending = added_entries d [] (appended_updates team t passed d pending)
 
 -- ---- the decision with it
 

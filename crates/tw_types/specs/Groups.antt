@@ -1,10 +1,12 @@
 -- The group that a complete ballot makes, or why it makes none.
-use Rattle.std.specs.Prelude.{ℕ, ◌+◌, ◌/◌, ◌^◌, nat_le, nat_lt, ◌==◌, max, Bool, not, ◌||◌, if◌then◌else◌, List, [], ◌∷◌, map, length, Option, Some, None, Result, Ok, Err, filter, filter_map, find, fold, count_by, option_map}
+use Rattle.std.specs.Prelude.{ℕ, ◌+◌, ◌/◌, ◌^◌, nat_le, nat_lt, ◌==◌, max, Bool, not, ◌||◌, if◌then◌else◌, List, [], ◌∷◌, ◌++◌, map, length, Option, Some, None, Result, Ok, Err, filter, filter_map, find, fold, count_by, option_map}
 use Rattle.std.specs.List.{list_any, range_with_len}
 use Rattle.std.specs.Option.{option_map_or}
 use Rattle.tw_types.specs.declared.team.Team.{Team}
 use Rattle.tw_types.specs.declared.message.Member.{Member}
 use Rattle.tw_types.specs.declared.message.UpdateId.{UpdateId}
+use Rattle.tw_types.specs.declared.message.Entry.{Entry}
+use Rattle.tw_types.specs.declared.message.Kept.{Kept}
 use Rattle.tw_types.specs.declared.message.Seat.{Seat}
 use Rattle.tw_types.specs.declared.message.Report.{Report}
 use Rattle.tw_types.specs.declared.message.Decision.{Decision}
@@ -13,6 +15,9 @@ use Rattle.tw_types.specs.Votes.{Making}
 use Rattle.tw_types.specs.Decisions.{or_none, decision_length, is_same_member, is_seat_of}
 use Rattle.tw_types.specs.Reports.{is_by_informed, is_consistent}
 use Rattle.tw_types.specs.Turns.{least, cut_to}
+use Rattle.tw_types.specs.Beliefs.{Log, log_length}
+use Rattle.tw_types.specs.Updates.{has_update}
+use Rattle.tw_types.specs.Logs.{log_room, needed}
 
 -- why a ballot makes no group
 pub data NoGroup : Type 0 where
@@ -71,16 +76,25 @@ greatest xs = fold max 0 xs
 abbrev pub start_of : Team → Ballot → ℕ
 start_of team b = 1 + max (or_none b.best).start (max (greatest (lease_ends team b.reports.items)) (greatest (readings b.reports.items)))
 
--- The informed reports aren't a majority; the owner's own report isn't consistent, or the consistent ones aren't a majority; or
--- the group would start too late.
-abbrev pub objections : Team → Ballot → Member → List Objection
-objections team b me =
+-- the payload of an entry of best's list is missing among these
+abbrev pub payload_objection : List Kept → Entry → Objection
+payload_objection payloads e = record { why = Missing e.id; present = not (has_update e.id payloads) }
+
+-- The informed reports aren't a majority; the owner's own report isn't consistent, best's list is shorter than the owner's, or the
+-- consistent reports aren't a majority; best's list ends too far ahead of what the owner passed; a payload is missing that the owner's
+-- list needs; or the group would start too late.
+abbrev pub objections : Team → Ballot → Log → List Kept → Member → List Objection
+objections team b log payloads me =
     record { why = TooFew; present = nat_lt (count_by is_by_informed b.reports.items) (team.n / 2 + 1) }
     ∷ record {
       why = NotConsistent;
-      present = not (list_any (λ (r : Report). is_same_member r.member me) (consistent b)) || nat_lt (length (consistent b)) (team.n / 2 + 1);
+      present = not (list_any (λ (r : Report). is_same_member r.member me) (consistent b))
+          || nat_lt (decision_length (or_none b.best)) (log_length log)
+          || nat_lt (length (consistent b)) (team.n / 2 + 1);
     }
-    ∷ record { why = Spent; present = nat_le (2 ^ 61) (start_of team b) }
+    ∷ record { why = Behind; present = nat_lt (log.passed + log_room) (decision_length (or_none b.best)) }
+    ∷ map (payload_objection payloads) (needed log (or_none b.best))
+    ++ record { why = Spent; present = nat_le (2 ^ 61) (start_of team b) }
     ∷ []
 
 -- The first decision of a group, which its owner makes at t. Its list is the best decision's, from the position on up to which
@@ -98,9 +112,9 @@ decision_from best members number start me t = record (cut_to (least (map (λ (r
 abbrev pub first_decision : Team → Ballot → Member → ℕ → Decision
 first_decision team b me t = decision_from (or_none b.best) (seated team b) b.number (start_of team b) me t
 
--- what comes of a complete ballot
-abbrev pub group_made : Team → Ballot → Member → ℕ → Result Decision NoGroup
-group_made team b me t = by (first_objection (objections team b me))
+-- what comes of a complete ballot, by the owner's log and the payloads that it has
+abbrev pub group_made : Team → Ballot → Log → List Kept → Member → ℕ → Result Decision NoGroup
+group_made team b log payloads me t = by (first_objection (objections team b log payloads me))
   where
     by : Option NoGroup → Result Decision NoGroup
     by None = Ok (first_decision team b me t)

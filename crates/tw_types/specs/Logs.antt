@@ -1,6 +1,7 @@
 -- How the list of updates of a process grows and is passed, and which decisions fit it.
-use Rattle.std.specs.Prelude.{ℕ, ◌+◌, ◌-◌, nat_le, nat_lt, true, not, ◌||◌, if◌then◌else◌, List, [], ◌∷◌, ◌++◌, map, length, max, Option, Some, None, filter_map, slice_get, slice_set}
+use Rattle.std.specs.Prelude.{ℕ, ◌+◌, ◌-◌, nat_le, nat_lt, true, not, ◌||◌, if◌then◌else◌, List, [], ◌∷◌, ◌++◌, map, length, max, Option, Some, None, find, filter_map, slice_get, slice_set}
 use Rattle.std.specs.Option.{option_map}
+use Rattle.tw_types.specs.declared.message.UpdateId.{UpdateId}
 use Rattle.tw_types.specs.declared.message.Entry.{Entry}
 use Rattle.tw_types.specs.declared.message.Kept.{Kept}
 use Rattle.tw_types.specs.declared.message.Decision.{Decision}
@@ -41,6 +42,10 @@ fit_tests_at length passed payloads d = end_tests length passed d ++ map (payloa
 -- why a decision doesn't fit a log
 abbrev pub fit_tests : Log → List Kept → Decision → List Refusal
 fit_tests log payloads d = fit_tests_at (log_length log) log.passed payloads d
+
+-- the first update that a decision needs of a log and whose payload is missing among these
+abbrev pub first_missing : Log → List Kept → Decision → Option UpdateId
+first_missing log payloads d = option_map (λ (e : Entry). e.id) (find (λ (e : Entry). not (has_update e.id payloads)) (needed log d))
 
 -- an entry, as a decision has it, with the payload and the early mark that are found for it
 abbrev pub entry_joined : List Kept → Entry → Option Kept

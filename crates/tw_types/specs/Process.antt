@@ -7,6 +7,7 @@ use Rattle.tw_types.specs.declared.datagram.Echo.{Echo}
 use Rattle.tw_types.specs.declared.ballot.Ballot.{Ballot}
 use Rattle.tw_types.specs.Votes.{Vote, no_vote}
 use Rattle.tw_types.specs.Beliefs.{Belief, Informed, Blank, Log, no_log}
+use Rattle.tw_types.specs.Waiting.{Waiting, nothing_waits}
 
 -- Who it is: its number, how it was started, its hardware reading at the beginning of this life, and that at its start.
 pub record Identity : Type 0 where
@@ -25,6 +26,18 @@ pub record Timing : Type 0 where
 pub record Beat : Type 0 where
   pub last : Option ℕ
 
+-- what a held decision is for
+pub data Purpose : Type 0 where
+  -- it is to be taken
+  ToTake : Purpose
+  -- a group is to be made from it
+  ToGroup : Purpose
+
+-- for what a decision is held, and what was promised when it was held
+pub record Hold : Type 0 where
+  pub purpose : Purpose
+  pub promised : ℕ
+
 pub record Process : Type 0 where
   pub identity : Identity
   pub timing : Timing
@@ -35,6 +48,9 @@ pub record Process : Type 0 where
   -- its group, and the group's list
   pub belief : Belief
   pub log : Log
+  -- the updates and the decision that wait, and for what the decision does
+  pub waiting : Waiting
+  pub hold : Option Hold
 
 -- A first start has all that there ever was, which is nothing; another one lost it.
 abbrev pub belief_at_start : Mode → Belief
@@ -51,4 +67,6 @@ started who mode h = record {
   ballot = None;
   belief = belief_at_start mode;
   log = no_log;
+  waiting = nothing_waits;
+  hold = None;
 }

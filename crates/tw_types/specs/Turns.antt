@@ -1,5 +1,5 @@
 -- The rotating decider: whose turn it is to make a group's next decision, and what that decision is.
-use Rattle.std.specs.Prelude.{ℕ, ◌+◌, ◌-◌, ◌^◌, nat_le, nat_lt, ◌==◌, max, min, Bool, false, ◌&&◌, if◌then◌else◌, List, ◌++◌, map, drop, Option, Some, None, filter_map, is_some, unwrap_or}
+use Rattle.std.specs.Prelude.{ℕ, ◌+◌, ◌-◌, ◌^◌, nat_le, nat_lt, ◌==◌, max, min, Bool, false, ◌&&◌, if◌then◌else◌, List, map, drop, Option, Some, None, filter_map, is_some, unwrap_or}
 use Rattle.std.specs.List.{list_all, reduce}
 use Rattle.std.specs.Option.{option_map_or}
 use Rattle.tw_types.specs.declared.team.Team.{Team}
@@ -11,6 +11,7 @@ use Rattle.tw_types.specs.declared.message.Decision.{Decision}
 use Rattle.tw_types.specs.Ranges.{DecisionFits}
 use Rattle.tw_types.specs.Decisions.{decision_length, is_same_member}
 use Rattle.tw_types.specs.Slots.{seat_after}
+use Rattle.tw_types.specs.Appending.{with_appended}
 
 -- the seat after the maker of a decision is this member's
 abbrev pub is_next : Member → Decision → Bool
@@ -24,10 +25,6 @@ is_turn team me (Some last) promised t = (last.group == promised) && is_next me 
 -- the last decision with the next turn, made at t by the process who
 abbrev pub next_draft : Decision → (t who : ℕ) → Decision
 next_draft last t who = record last { turn = last.turn + 1; made = t; maker = who }
-
--- the entries that its maker adds to the list
-abbrev pub appended : List Entry → Decision → Decision
-appended entries d = record d { window = record { items = d.window.items ++ entries } }
 
 -- the seat of this process has the support, and each other seat what it had
 abbrev pub supported : ℕ → Support → Seat → Seat
@@ -63,4 +60,4 @@ finished draft = cut_to (raised_low draft.low (with_own_support draft).seats.ite
 
 -- the next decision, which process who makes at t and adds these entries in
 abbrev pub next_decision : List Entry → Decision → (t who : ℕ) → Decision
-next_decision entries last t who = finished (appended entries (next_draft last t who))
+next_decision entries last t who = finished (with_appended entries (next_draft last t who))

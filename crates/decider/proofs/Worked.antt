@@ -194,6 +194,19 @@ second_of_group_7 : next_decision [] last 712000 2 ≡ record last {
 }
 second_of_group_7 = refl
 
+-- with two entries of process 1, which its maker has too
+abbrev by_1 : ℕ → Entry
+by_1 seq = record (entry seq) { id = record { who = 1; incarnation = 699990; seq = seq } }
+
+with_two_entries : next_decision (by_1 1 ∷ by_1 2 ∷ []) last 712000 2 ≡ record last {
+  turn = 1;
+  made = 712000;
+  seats = record { items = seat (member 0 699990) None ∷ record (seat (member 1 699990) (Some (record { ack = 0; at = 702000 }))) { next = 3 } ∷ seat (member 2 699990) (Some (record { ack = 2; at = 712000 })) ∷ [] };
+  maker = 2;
+  window = record { items = by_1 1 ∷ by_1 2 ∷ [] };
+}
+with_two_entries = refl
+
 abbrev support : ℕ → Option Support
 support ack = Some (record { ack = ack; at = 702000 })
 

@@ -1,20 +1,26 @@
 //! The group that a ballot makes, or why it makes none.
 
-ghost use Rattle.std.specs.Prelude.{◌≡◌, ◌-◌, ◌<◌, ◌≤◌, ◌^◌, length, IfSome, count_by, drop, option_copied};
-ghost use Rattle.std.specs.List.{list_any};
+ghost use Rattle.std.specs.Prelude.{◌≡◌, ◌-◌, ◌<◌, ◌≤◌, ◌^◌, length, None, IfSome, count_by, drop, option_copied};
+ghost use Rattle.std.specs.List.{list_any, AllByRecursion};
 ghost use Rattle.tw_types.specs.declared.message.Report.{Report};
 ghost use Rattle.tw_types.specs.Team.{IsSound};
 ghost use Rattle.tw_types.specs.Ranges.{DecisionFits};
+ghost use Rattle.tw_types.specs.Beliefs.{Log, log_length};
 ghost use Rattle.tw_types.specs.Decisions.{or_none, is_same_member};
+ghost use Rattle.tw_types.specs.Logs.{fit_tests};
+ghost use Rattle.tw_types.specs.Refusals.{first_refusal};
 ghost use Rattle.tw_types.specs.Reports.{is_by_informed};
 ghost use Rattle.tw_types.specs.BallotFits.{IsBallot};
-ghost use Rattle.tw_types.specs.Groups.{consistent, decision_from, first_decision, group_made, start_of};
+ghost use Rattle.tw_types.specs.Groups.{decision_from, group_made};
+ghost use Rattle.oal.specs.StandsFor.{StandsFor};
 ghost use Rattle.group_maker.specs.Outcome.{outcome, IfGroup};
 
+use crate::list::{entries_from, first_missing, is_behind, length};
 use crate::members::{consistent, least_length, seated, seats};
 use crate::start::start_of;
 use arrayvec::ArrayVec;
-use tw_types::{Ballot, Decision, Entry, Kind, Member, Report, Team, UpdateId, maj};
+use oal::Oal;
+use tw_types::{Ballot, Decision, Entry, Kind, Member, Payloads, Report, Team, UpdateId, maj};
 
 /// What comes of a complete ballot.
 #[derive(Debug, PartialEq, Eq, Drop)]
@@ -23,61 +29,65 @@ pub enum Made {
     Group(Decision),
     /// The reports of informed processes are no majority.
     TooFew,
-    /// The owner's report doesn't go with the best decision, or those that do are no majority.
+    /// The owner's report doesn't go with the best decision, that one's list is shorter than the owner's, or the reports that
+    /// go with it are no majority.
     NotConsistent,
-    /// The list would be too far ahead of what the owner passed.
+    /// The list would end more than 64 positions ahead of what the owner passed.
     Behind,
-    /// The payload of this update is missing.
+    /// The payload of this update is missing, which the owner's list needs.
     Missing(UpdateId),
     /// The group would start at 2^61 or later.
     Spent,
 }
 
 /// The group that a complete ballot makes, by its owner `me` at its reading `t`, in microseconds of team time, or why it makes
-/// none: the first reason that holds.
+/// none: the first reason that holds. The owner has the list of updates `log`, and the payloads `p`.
 ///
 /// `TooFew` comes where fewer than a majority of the team reported as informed; `NotConsistent` where no consistent report is
-/// of this member, or fewer than a majority are consistent; `Spent` where the group would start at 2^61 or later. `Behind` and
-/// `Missing` don't come.
-pub fn make_group(team: &Team, b: &Ballot, me: Member, t: u64) -> Made
+/// of this member, or the best decision's list ends before the owner's, or fewer than a majority are consistent; `Behind`
+/// where the best decision's list ends more than 64 positions ahead of what the owner passed; `Missing` where an entry of it
+/// behind the end of the owner's has no payload, with the first one's id; `Spent` where the group would start at 2^61 or
+/// later.
+///
+/// A group that is made goes on the owner's list, if the owner is a process of the team and no report of it tells a greater
+/// length than that list has.
+pub fn make_group<P: Payloads>(
+    team: &Team,
+    b: &Ballot,
+    log: &Oal,
+    p: &P,
+    me: Member,
+    t: u64,
+) -> Made
     requires sound { IsSound team.now }
     requires best { IfSome b.now.best (λ d. d.low < 2 ^ 61) }
-    ensures exact { outcome result ≡ group_made team.now b.now me t }
+    ensures exact { (l : Log) → StandsFor log.now l → outcome result ≡ group_made team.now b.now l (P.payloads p.now) me t }
     ensures fits { IsBallot team.now.n b.now → t < 2 ^ 60 → IfGroup result (DecisionFits team.now.n) }
+    ensures fits_log { (l : Log) → StandsFor log.now l → me.who < team.now.n →
+        AllByRecursion (λ (r : Report). r.member.who ≡ me.who → r.length ≤ log_length l) b.now.reports.items →
+        IfGroup result (λ d. first_refusal (fit_tests l (P.payloads p.now) d) ≡ None) }
 {
     let majority = usize::from(maj(team.n));
     if informed_count(&b.reports) < majority {
         return Made::TooFew;
     }
-    let consistent = consistent(b);
-    if !has_report_of(me, &consistent) || consistent.len() < majority {
+    let best = or_none(b.best.as_ref());
+    let reports = consistent(b);
+    if !has_report_of(me, &reports) || length(&best) < log.length() || reports.len() < majority {
         return Made::NotConsistent;
+    }
+    if is_behind(log, &best) {
+        return Made::Behind;
+    }
+    if let Some(id) = first_missing(entries_from(log.length(), &best), p) {
+        return Made::Missing(id);
     }
     let start = start_of(team, b);
     if start >= 1 << 61 {
         return Made::Spent;
     }
-    Made::Group(first_decision(team, b, &consistent, me, start as u64, t))
-}
-
-/// The first decision of the group, which `me` makes at `t`.
-fn first_decision(
-    team: &Team,
-    b: &Ballot,
-    reports: &[Report],
-    me: Member,
-    start: u64,
-    t: u64,
-) -> Decision
-    requires sound { IsSound team.now }
-    requires best { IfSome b.now.best (λ d. d.low < 2 ^ 61) }
-    requires reports { reports.now ≡ consistent b.now }
-    requires start { start ≡ start_of team.now b.now }
-    ensures { result ≡ first_decision team.now b.now me t }
-{
-    let best = or_none(b.best.as_ref());
-    let members = seated(team.n, reports);
-    decision_from(&best, &members, b.number, start, me, t)
+    let members = seated(team.n, &reports);
+    Made::Group(decision_from(&best, &members, b.number, start as u64, me, t))
 }
 
 /// The first decision of a group of these members, which goes on from the best decision.

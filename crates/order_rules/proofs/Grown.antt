@@ -1,6 +1,7 @@
 -- A decision that grew by entries that came one after the other.
-use Rattle.std.proofs.Common.{◌≡◌, refl, ℕ, ◌+◌, ◌<◌, ◌≤◌, true, false, List, [], ◌∷◌, ◌++◌, length, inl, inr, ◌⊎◌, arith, sym, ap, ◌∙◌, subst, length-append}
-use Rattle.std.specs.List.{AllByRecursion}
+use Rattle.std.proofs.Common.{◌≡◌, refl, ℕ, ◌+◌, ◌<◌, ◌≤◌, Bool, true, false, List, [], ◌∷◌, ◌++◌, map, length, inl, inr, ◌⊎◌, arith, sym, ap, ◌∙◌, subst, suc, leb, length-append}
+use Rattle.std.specs.Prelude.{◌&&◌}
+use Rattle.std.specs.List.{AllByRecursion, Contains}
 use Rattle.std.proofs.lemmas.List.{length-map}
 use Rattle.std.proofs.lemmas.Bool.Decides.{nat_tests}
 use Rattle.tw_types.specs.declared.team.Team.{Team}
@@ -12,13 +13,16 @@ use Rattle.tw_types.specs.declared.message.Decision.{Decision}
 use Rattle.tw_types.specs.Ranges.{Ascends, SentFits}
 use Rattle.tw_types.specs.Decisions.{decision_length, is_seat_of}
 use Rattle.update_store.specs.Stock.{HasNumber}
+use Rattle.tw_types.specs.Logs.{log_room}
 use Rattle.tw_types.specs.Turns.{DraftFits}
-use Rattle.tw_types.specs.Updates.{sender}
-use Rattle.tw_types.specs.Appending.{is_candidate, is_ripe, may_come, has_room, MayBeAppended, IsAppended, raised, with_appended, IsNextEntry}
+use Rattle.tw_types.specs.Updates.{WaitInOrder, sender}
+use Rattle.tw_types.specs.Appending.{is_candidate, is_ripe, may_come, window_room, last_position, has_room, MayBeAppended, IsAppended, appended_list, raised, with_appended, IsNextEntry}
+use Rattle.tw_types.proofs.Appended.{appended_is}
 use Rattle.order_rules.specs.Next.{room_for_one, GoesOn, Ends, Empty, Full}
+use Rattle.order_rules.specs.Next as next
 use Rattle.order_rules.proofs.Lists.{holds_of, holds_of_each, both}
-use Rattle.order_rules.proofs.Longest.{longest, room_by, has_room_by, NoneFollows, IsFull}
-use Rattle.order_rules.proofs.Unique.{WaitForSeats, seat_of, one_seat}
+use Rattle.order_rules.proofs.Longest.{longest, one_appended, room_by, has_room_by, NoneFollows, IsFull}
+use Rattle.order_rules.proofs.Unique.{WaitForSeats, IsAtSeat, seat_of, one_seat}
 use Rattle.order_rules.proofs.Fits.{one_more_fits}
 use Rattle.order_rules.proofs.Shift.{EachIsFirst, each_is_next, one_more_first, with_one_more, may_come_with, with_nothing}
 
@@ -69,6 +73,12 @@ appended team t passed pending d e up order g ends =
     let may : MayBeAppended team t passed d pending g.entries = record { each = each_is_next team t d pending g.entries g.each; room = g.room } in
     let end = nothing_follows team t passed pending d g.entries (subst (λ z. Ends team t passed z pending) g.grown ends) in
     (g.entries, longest team t passed d pending g.entries up order may end, g.grown)
+
+-- and that list is the one of the definition
+pub listed : (team : Team) (t passed : ℕ) (pending : List Kept) (d e : Decision) → Ascends d.seats.items → WaitForSeats d pending → Grown team t passed pending d e → Ends team t passed e pending → e ≡ with_appended (appended_list team t passed d pending) d
+listed team t passed pending d e up order g ends =
+    let r = appended team t passed pending d e up order g ends in
+    r.2 ∙ ap (λ (entries : List Entry). with_appended entries d) (one_appended team t passed d pending r.0 (appended_list team t passed d pending) up order r.1 (appended_is team t passed d pending up))
 
 -- ---- seats
 

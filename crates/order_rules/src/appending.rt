@@ -9,7 +9,7 @@ ghost use Rattle.tw_types.specs.Ranges.{Ascends, SentFits};
 ghost use Rattle.tw_types.specs.Turns.{DraftFits};
 ghost use Rattle.tw_types.specs.Decisions.{is_seat_of};
 ghost use Rattle.tw_types.specs.Updates.{sender};
-ghost use Rattle.tw_types.specs.Appending.{IsAppended, raised, with_appended};
+ghost use Rattle.tw_types.specs.Appending.{IsAppended, appended_list, raised, with_appended};
 
 use crate::entries::{mark_of, moves_mark};
 use crate::next::next_entry;
@@ -25,6 +25,7 @@ use update_store::Store;
 pub fn append(team: &Team, store: &Store, d: &mut Decision, passed: u64, t: u64)
     requires { Ascends d.old.seats.items }
     ensures exact { (entries : List EntrySeen) × IsAppended team.now t passed d.old store.now.waiting.pending entries × (d.new ≡ with_appended entries d.old) }
+    ensures listed { d.new ≡ with_appended (appended_list team.now t passed d.old store.now.waiting.pending) d.old }
     ensures fits { (n : ℕ) → DraftFits n d.old → AllByRecursion (λ (k : Kept). SentFits n k.entry) store.now.waiting.pending → DraftFits n d.new }
 {
     while let Some(entry) = next_entry(team, store, d, passed, t) {

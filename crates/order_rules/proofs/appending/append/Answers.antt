@@ -3,7 +3,7 @@ use Rattle.std.proofs.Common.{◌≡◌, [], ◌∷◌, length, subst, sym, arit
 use Rattle.tw_types.specs.Ranges.{Ascends}
 use Rattle.tw_types.specs.declared.message.Decision.{Decision}
 use Rattle.order_rules.proofs.Fits.{still_ascends}
-use Rattle.order_rules.proofs.Grown.{Grown, not_grown, grown_more, number_left, same_seats, appended}
+use Rattle.order_rules.proofs.Grown.{Grown, not_grown, grown_more, number_left, same_seats, appended, listed}
 use Rattle.order_rules.proofs.appending.append.Goals as goal
 
 pub loop-entry-init : goal.loop-entry-init
@@ -25,6 +25,11 @@ pub returns-clause-exact : goal.returns-clause-exact
 returns-clause-exact c =
     let same : length c.loop-entry.d.seats.items ≡ length c.args.d.now.seats.items = same_seats c.args.team.now c.args.t c.args.passed c.args.store.now.waiting.pending c.args.d.now c.loop-entry.d c.loop-entry.invariant.grown in
     appended c.args.team.now c.args.t c.args.passed c.args.store.now.waiting.pending c.args.d.now c.loop-entry.d c.requires (λ some. (c.in_default.ensures.facts (omega arith)).order) c.loop-entry.invariant.grown c.in_default.ensures.next
+
+pub returns-clause-listed : goal.returns-clause-listed
+returns-clause-listed c =
+    let same : length c.loop-entry.d.seats.items ≡ length c.args.d.now.seats.items = same_seats c.args.team.now c.args.t c.args.passed c.args.store.now.waiting.pending c.args.d.now c.loop-entry.d c.loop-entry.invariant.grown in
+    listed c.args.team.now c.args.t c.args.passed c.args.store.now.waiting.pending c.args.d.now c.loop-entry.d c.requires (λ some. (c.in_default.ensures.facts (omega arith)).order) c.loop-entry.invariant.grown c.in_default.ensures.next
 
 pub returns-clause-fits : goal.returns-clause-fits
 returns-clause-fits c = c.loop-entry.invariant.grown.fits

@@ -1,5 +1,12 @@
 pub mod Echoes
 pub mod Refusals
+pub mod Listing
+pub mod Waits
+pub mod Fitting
+pub mod Next
+pub mod Entered
+pub mod Drafts
 pub mod Others
 pub mod Steps
 pub mod Concerns
+mod Worked

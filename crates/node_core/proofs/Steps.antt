@@ -1,5 +1,6 @@
 -- An event, by its parts.
-use Rattle.std.proofs.Common.{◌≡◌, ap, sym, ◌∙◌, ℕ, Bool, cond}
+use Rattle.std.proofs.Common.{◌≡◌, ap, sym, subst, ◌∙◌, ℕ, Bool, cond}
+use Rattle.std.specs.Option.{option_map}
 use Rattle.tw_types.specs.declared.team.Team.{Team}
 use Rattle.tw_types.specs.declared.outputs.Outputs.{Outputs}
 use Rattle.tw_types.specs.Outputs.{nothing}
@@ -8,13 +9,16 @@ use Rattle.tw_machine.specs.Event.{Event}
 use Rattle.tw_machine.specs.Hearing.{read}
 use Rattle.tw_machine.specs.Duties.{duties}
 use Rattle.tw_machine.specs.Step.{learnt_by, moment_of, read_by, ruled_by, has_duties, step}
+use Rattle.oal.specs.Recent.{Recent}
+use Rattle.oal.specs.StandsFor as list
+use Rattle.update_store.specs.Stock.{Stock}
 use Rattle.node_core.specs.declared.state.State.{State}
-use Rattle.node_core.specs.StandsFor.{StandsFor, TimingStandsFor, RunStandsFor, identity_seen, beat_seen, vote_seen, belief_seen}
+use Rattle.node_core.specs.StandsFor.{StandsFor, TimingStandsFor, RunStandsFor, identity_seen, beat_seen, vote_seen, belief_seen, hold_seen}
 
 -- a core that read its clock, and cleared what it gave before, stands for the run with which the rule begins
-pub read_stands : (team : Team) (c new : State) (h : ℕ) (e : Event) (p : Process) (out : Outputs) → StandsFor c p → new.team ≡ team → new.identity ≡ c.identity → new.beat ≡ c.beat → new.vote ≡ c.vote → new.ballot ≡ c.ballot → new.belief ≡ c.belief
+pub read_stands : (team : Team) (c new : State) (h : ℕ) (e : Event) (p : Process) (out : Outputs) → StandsFor c p → new.team ≡ team → new.identity ≡ c.identity → new.beat ≡ c.beat → new.vote ≡ c.vote → new.ballot ≡ c.ballot → new.belief ≡ c.belief → new.oal ≡ c.oal → new.store ≡ c.store → new.hold ≡ c.hold
     → TimingStandsFor new.team new.timing (read team h (learnt_by team h e p).timing) → out ≡ nothing → RunStandsFor team new out (read_by team h e p)
-read_stands team c new h e p out s same me beat vote ballot belief timing cleared = record {
+read_stands team c new h e p out s same me beat vote ballot belief oal store hold timing cleared = record {
   same_team = same;
   process = record {
     identity = s.identity ∙ ap identity_seen (sym me);
@@ -23,7 +27,9 @@ read_stands team c new h e p out s same me beat vote ballot belief timing cleare
     vote = s.vote ∙ ap vote_seen (sym vote);
     ballot = s.ballot ∙ sym ballot;
     belief = s.belief ∙ ap belief_seen (sym belief);
-    log = s.log;
+    log = subst (λ (o : Recent). list.StandsFor o p.log) (sym oal) s.log;
+    waiting = s.waiting ∙ ap (λ (k : Stock). k.waiting) (sym store);
+    hold = s.hold ∙ ap (option_map hold_seen) (sym hold);
   };
   given = cleared;
 }

@@ -1,27 +1,71 @@
--- What a ballot and an election come to.
-use Rattle.std.specs.Prelude.{ℕ, ◌≡◌, if◌then◌else◌, Option, Some, None, Result, Ok, Err}
+-- What a ballot and an election come to, and what parts of a step leave.
+use Rattle.std.specs.Prelude.{ℕ, ◌≡◌, Bool, if◌then◌else◌, List, [], Option, Some, None, Result, Ok, Err}
+use Rattle.std.specs.Option.{option_map}
 use Rattle.tw_num.specs.declared.moment.Moment.{Moment}
 use Rattle.tw_types.specs.declared.team.Team.{Team}
-use Rattle.tw_types.specs.declared.message.Member.{Member}
+use Rattle.tw_types.specs.declared.message.UpdateId.{UpdateId}
+use Rattle.tw_types.specs.declared.message.Entry.{Entry}
+use Rattle.tw_types.specs.declared.message.Kept.{Kept}
 use Rattle.tw_types.specs.declared.message.Decision.{Decision}
 use Rattle.tw_types.specs.declared.ballot.Ballot.{Ballot}
 use Rattle.tw_types.specs.declared.datagram.Why.{Why}
+use Rattle.tw_types.specs.declared.answer.Reason.{Reason}
 use Rattle.tw_types.specs.Votes.{Promise}
+use Rattle.tw_types.specs.Appending.{MayBeAppended, appended_list, with_appended}
 use Rattle.tw_types.specs.Ballots.{begun, is_complete}
-use Rattle.tw_types.specs.Groups.{NoGroup, group_made}
+use Rattle.tw_types.specs.Groups.{NoGroup, TooFew, NotConsistent, Behind, Missing, Spent, group_made}
+use Rattle.tw_types.specs.Process.{Process}
+use Rattle.tw_types.specs.Turns.{next_draft}
+use Rattle.tw_types.specs.Waiting.{payloads_of, settled_by}
+use Rattle.oal.specs.declared.list.ExtendFault.{ExtendFault}
+use Rattle.oal.specs.Faults.{extend_reason}
 use Rattle.tw_machine.specs.Run.{Run}
+use Rattle.tw_machine.specs.Standing.{member_of}
 use Rattle.tw_machine.specs.Electing.{election_begun, begin_election}
+use Rattle.tw_machine.specs.Entering.{let_go_below, hold_after}
+use Rattle.tw_machine.specs.Grouping.{group_begun, best_held}
 
-abbrev pub if_made : Result Decision NoGroup → Option Decision
-if_made (Ok d) = Some d
-if_made (Err why) = None
+-- the group that is made, or the update without whose payload none is
+abbrev pub if_made : Result Decision NoGroup → Option (Result Decision UpdateId)
+if_made (Ok d) = Some (Ok d)
+if_made (Err (Missing id)) = Some (Err id)
+if_made (Err TooFew) = None
+if_made (Err NotConsistent) = None
+if_made (Err Behind) = None
+if_made (Err Spent) = None
 
--- the group that this member makes of a ballot at t, if that is complete and makes one
-abbrev pub group_if_complete : Team → Member → ℕ → Ballot → Option Decision
-group_if_complete team me t ballot = if is_complete team t ballot then if_made (group_made team ballot me t) else None
+-- what this process makes of a ballot at t, if that is complete
+abbrev pub made_if_complete : Team → ℕ → Process → Ballot → Option (Result Decision UpdateId)
+made_if_complete team t p ballot = if is_complete team t ballot then if_made (group_made team ballot p.log (payloads_of p.waiting) (member_of p.identity) t) else None
+
+-- what that comes to: a group begins, or the ballot's best decision is held
+abbrev pub run_made : Team → Moment → ℕ → Run → Ballot → Option (Result Decision UpdateId) → Run
+run_made team now t r ballot None = r
+run_made team now t r ballot (Some (Ok d)) = group_begun team now ballot d t r
+run_made team now t r ballot (Some (Err id)) = best_held now ballot id r
+
+-- the best decision of a ballot, and a process that has it
+abbrev pub best_of : Ballot → Option (Decision × ℕ)
+best_of ballot = option_map (λ (d : Decision). (d, ballot.best_from)) ballot.best
 
 -- the process of the run holds an election for this reason, and begins this ballot with its own promise
 pub record HoldsElection (team : Team) (now : Moment) (t : ℕ) (r : Run) (b : Ballot × Why) : Type 0 where
   pub own : Promise
   pub is : begin_election team now t r ≡ election_begun team now b.1 own r
   pub ballot : b.0 ≡ begun own
+
+-- what waits once a decision is taken
+abbrev pub let_go : Decision → Process → Process
+let_go d p = record p { waiting = let_go_below d (settled_by d p.waiting); hold = hold_after d p }
+
+-- A draft after the last decision, made at t by the process who: with what it appends where it is up, and with nothing else.
+pub record IsDraft (team : Team) (up : Bool) (t passed : ℕ) (pending : List Kept) (last : Decision) (who : ℕ) (draft : Decision) : Type 0 where
+  pub entries : List Entry
+  pub list : entries ≡ (if up then appended_list team t passed last pending else [])
+  pub may : MayBeAppended team t passed last pending entries
+  pub is : draft ≡ with_appended entries (next_draft last t who)
+
+-- the first reason against a decision that a list tells, if it tells one
+abbrev pub list_reason : Result (Unit {0}) ExtendFault → Option Reason
+list_reason (Ok u) = None
+list_reason (Err fault) = Some (extend_reason fault)

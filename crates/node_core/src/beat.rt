@@ -32,7 +32,7 @@ impl State {
     ghost use Rattle.tw_types.specs.declared.team.Team.{Team as TeamSeen};
     ghost use Rattle.tw_machine.specs.Run.{Run};
     ghost use Rattle.tw_machine.specs.Sending.{sent_to_others};
-    ghost use Rattle.tw_machine.specs.Beating.{is_repeated, repeat_decision, give_beat};
+    ghost use Rattle.tw_machine.specs.Beating.{is_repeated, repeat_decision, ask_again, give_beat};
     ghost use Rattle.node_core.specs.InRange.{IsInRange};
     ghost use Rattle.node_core.specs.Moments.{MomentFits};
     ghost use Rattle.node_core.specs.Sends.{GivesMore};
@@ -86,19 +86,35 @@ impl State {
         self.send_to_others(now, &sign, out);
     }
 
-    /// Where a beat is due, says the last decision again, if there is need, and gives a sign of life to each other process.
+    /// Asks again for the first update that a held decision lacks.
+    fn ask_again(&self, now: &Moment, out: &mut Outputs)
+        requires fits { IsInRange self.now }
+        requires now { MomentFits now.now }
+        requires room { length out.old.sends + 1 ≤ 64 }
+        ensures stands { (team : TeamSeen) (r : Run) → RunStandsFor team self.now out.old r →
+            RunStandsFor team self.now out.new (ask_again now.now r) }
+        ensures gives { GivesMore self.now.team.n 1 out.old out.new }
+    {
+        if let Some((id, source)) = self.store.hole() {
+            self.ask(now, id, source, out);
+        }
+    }
+
+    /// Where a beat is due, asks again for what a held decision lacks, says the last decision again, if there is need, and gives a
+    /// sign of life to each other process.
     pub fn give_beat(&mut self, now: &Moment, out: &mut Outputs)
         requires fits { IsInRange self.old }
         requires now { MomentFits now.now }
-        requires room { length out.old.sends + 28 ≤ 64 }
+        requires room { length out.old.sends + 29 ≤ 64 }
         ensures stands { (team : TeamSeen) (r : Run) → RunStandsFor team self.old out.old r →
             RunStandsFor team self.new out.new (give_beat team now.now r) }
-        ensures gives { GivesMore self.old.team.n 28 out.old out.new }
+        ensures gives { GivesMore self.old.team.n 29 out.old out.new }
         ensures fits { IsInRange self.new }
         ensures team { self.new.team ≡ self.old.team }
     {
         if self.beat.is_due(self.team.pace, now.h) {
             self.beat.last = Some(now.h);
+            self.ask_again(now, out);
             self.repeat_decision(now, out);
             self.give_signs(now, out);
         }

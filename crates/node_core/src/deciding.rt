@@ -1,25 +1,32 @@
 //! Decisions that a process makes.
 
-use crate::state::{Belief, State};
+use crate::state::State;
 use decider::{due, finish, next_draft};
+use order_rules::append;
 use tw_num::Moment;
 use tw_types::{Body, Decision, Outputs};
 
 impl State {
-    ghost use Rattle.std.specs.Prelude.{◌≡◌, ◌<◌, ◌≤◌, ◌+◌, ◌^◌, length, true, Option, List};
+    ghost use Rattle.std.specs.Prelude.{◌≡◌, ◌<◌, ◌≤◌, ◌+◌, ◌^◌, length, true, Option, Some, None, List};
     ghost use Rattle.tw_types.specs.declared.team.Team.{Team as TeamSeen};
     ghost use Rattle.tw_types.specs.declared.message.Report.{Report};
     ghost use Rattle.tw_types.specs.declared.message.Decision.{Decision as DecisionSeen};
     ghost use Rattle.tw_types.specs.Beliefs.{last_of};
-    ghost use Rattle.tw_types.specs.Turns.{is_turn};
+    ghost use Rattle.tw_types.specs.Flag.{is_up};
+    ghost use Rattle.tw_types.specs.Logs.{fit_tests_at};
+    ghost use Rattle.tw_types.specs.Process.{Process};
+    ghost use Rattle.tw_types.specs.Turns.{is_turn, next_decision, DraftFits};
     ghost use Rattle.tw_types.specs.Ranges.{DecisionFits};
+    ghost use Rattle.tw_types.specs.Refusals.{first_refusal};
+    ghost use Rattle.tw_types.specs.Waiting.{payloads_of};
     ghost use Rattle.tw_machine.specs.Run.{Run};
     ghost use Rattle.tw_machine.specs.Standing.{member_of};
-    ghost use Rattle.tw_machine.specs.Deciding.{decision_made, take_turn};
+    ghost use Rattle.tw_machine.specs.Deciding.{entries_to_add, decision_made, take_turn};
     ghost use Rattle.node_core.specs.InRange.{IsInRange};
     ghost use Rattle.node_core.specs.Moments.{MomentFits};
+    ghost use Rattle.node_core.specs.Outcomes.{IsDraft};
     ghost use Rattle.node_core.specs.Sends.{GivesMore};
-    ghost use Rattle.node_core.specs.StandsFor.{RunStandsFor, identity_seen, belief_seen};
+    ghost use Rattle.node_core.specs.StandsFor.{StandsFor, RunStandsFor, identity_seen, vote_seen, belief_seen};
 
     /// Makes a decision at the reading `t` of team time: the process takes it, supports it, and sends it to all others.
     pub fn make_decision(&mut self, now: &Moment, d: Decision, t: u64, out: &mut Outputs)
@@ -27,6 +34,7 @@ impl State {
         requires now { MomentFits now.now }
         requires decision { DecisionFits self.old.team.n d }
         requires promised { d.group ≤ self.old.vote.promised }
+        requires list { first_refusal (fit_tests_at self.old.oal.length self.old.oal.passed (payloads_of self.old.store.waiting) d) ≡ None }
         requires reading { t < 2 ^ 60 }
         requires room { length out.old.sends + 14 ≤ 64 }
         ensures stands { (team : TeamSeen) (before : Option DecisionSeen) (reports : List Report) (r : Run) → RunStandsFor team self.old out.old r →
@@ -36,7 +44,7 @@ impl State {
         ensures team { self.new.team ≡ self.old.team }
     {
         self.vote.support = Some(t);
-        self.belief = Belief::Informed(Some(d.copy()));
+        self.enter(&d);
         out.made = Some(d.copy());
         self.send_to_others(now, &Body::Decision(d), out);
     }
@@ -55,6 +63,43 @@ impl State {
         )
     }
 
+    /// The draft of the decision after the last one, with the entries that this process adds at its reading `t`: none where it
+    /// isn't up by the last one.
+    fn draft(&self, last: &Decision, t: u64) -> Decision
+        requires fits { IsInRange self.now }
+        requires reading { t < 2 ^ 60 }
+        requires last { last_of (belief_seen self.now.belief) ≡ Some last.now }
+        requires due { is_turn self.now.team (member_of (identity_seen self.now.identity)) (Some last.now) self.now.vote.promised t ≡ true }
+        ensures exact { IsDraft self.now.team (is_up self.now.team (vote_seen self.now.vote) (belief_seen self.now.belief) (Some t)) t self.now.oal.passed
+            self.now.store.waiting.pending last.now self.now.identity.who result }
+        ensures fits { DraftFits self.now.team.n result }
+    {
+        let mut draft = next_draft(last, t, self.identity.who);
+        if self.is_up(Some(t)) {
+            let passed = self.oal.passed();
+            append(&self.team, &self.store, &mut draft, passed, t);
+        }
+        draft
+    }
+
+    /// The decision after the last one, which this process makes at its reading `t`. It goes on the list.
+    fn next_decision(&self, last: &Decision, t: u64) -> Decision
+        requires fits { IsInRange self.now }
+        requires reading { t < 2 ^ 60 }
+        requires last { last_of (belief_seen self.now.belief) ≡ Some last.now }
+        requires due { is_turn self.now.team (member_of (identity_seen self.now.identity)) (Some last.now) self.now.vote.promised t ≡ true }
+        ensures exact { (p : Process) → StandsFor self.now p →
+            result ≡ next_decision (entries_to_add self.now.team t last.now p) last.now t self.now.identity.who }
+        ensures fits { DecisionFits self.now.team.n result }
+        ensures list { first_refusal (fit_tests_at self.now.oal.length self.now.oal.passed (payloads_of self.now.store.waiting) result) ≡ None }
+        ensures group { result.group ≡ last.now.group }
+    {
+        // the list is no further ahead of what is passed than it may be
+        let ahead = self.oal.length() - self.oal.passed();
+        prove!(ahead <= 64);
+        finish(self.draft(last, t))
+    }
+
     /// Makes the group's next decision, which is due to this process.
     #[inline(never)]
     pub fn take_turn(&mut self, now: &Moment, t: u64, out: &mut Outputs)
@@ -70,7 +115,7 @@ impl State {
         ensures team { self.new.team ≡ self.old.team }
     {
         if let Some(last) = self.belief.last() {
-            let next = finish(next_draft(last, t, self.identity.who));
+            let next = self.next_decision(last, t);
             self.make_decision(now, next, t, out);
         }
     }

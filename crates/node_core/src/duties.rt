@@ -43,10 +43,10 @@ impl State {
     pub fn duties(&mut self, now: &Moment, out: &mut Outputs)
         requires fits { IsInRange self.old }
         requires now { MomentFits now.now }
-        requires room { length out.old.sends + 56 ≤ 64 }
+        requires room { length out.old.sends + 57 ≤ 64 }
         ensures stands { (team : TeamSeen) (r : Run) → RunStandsFor team self.old out.old r →
             RunStandsFor team self.new out.new (duties team now.now r) }
-        ensures gives { GivesMore self.old.team.n 56 out.old out.new }
+        ensures gives { GivesMore self.old.team.n 57 out.old out.new }
         ensures fits { IsInRange self.new }
         ensures team { self.new.team ≡ self.old.team }
     {

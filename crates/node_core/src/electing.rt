@@ -37,16 +37,17 @@ fn is_over(team: &Team, promised: u64, last: Option<&Decision>, t: u64, ballot: 
 }
 
 impl State {
-    ghost use Rattle.std.specs.Prelude.{◌≡◌, ◌<◌, ◌≤◌, ◌+◌, ◌^◌, length, IfNone, IfSome, MatchOption};
+    ghost use Rattle.std.specs.Prelude.{◌≡◌, ◌<◌, ◌≤◌, ◌+◌, ◌^◌, true, length, IfNone, IfSome, MatchOption};
     ghost use Rattle.tw_types.specs.declared.team.Team.{Team as TeamSeen};
     ghost use Rattle.tw_types.specs.declared.outputs.Outputs.{Outputs as OutputsSeen};
     ghost use Rattle.tw_types.specs.BallotFits.{IsBallot};
+    ghost use Rattle.tw_types.specs.Ballots.{has_report_of};
     ghost use Rattle.tw_types.specs.Process.{Process};
     ghost use Rattle.tw_types.specs.Ranges.{IsPositive};
     ghost use Rattle.tw_types.specs.Refusals.{first_refusal};
     ghost use Rattle.tw_machine.specs.Run.{Run};
     ghost use Rattle.tw_machine.specs.Electing.{answer_tests, answer_election, drop_ballot, begin_election};
-    ghost use Rattle.node_core.specs.InRange.{IsInRange};
+    ghost use Rattle.node_core.specs.InRange.{IsInRange, ReportsWithin};
     ghost use Rattle.node_core.specs.Outcomes.{HoldsElection};
     ghost use Rattle.node_core.specs.Moments.{MomentFits};
     ghost use Rattle.node_core.specs.Sends.{GivesMore};
@@ -155,6 +156,8 @@ impl State {
             MatchOption result (begin_election team now.now t r ≡ r) (HoldsElection team now.now t r) }
         ensures fits { IfSome result (λ begun. IsBallot self.now.team.n begun.0) }
         ensures above { IfSome result (λ begun. self.now.vote.promised < begun.0.number) }
+        ensures own { IfSome result (λ begun. has_report_of self.now.identity.who begun.0 ≡ true) }
+        ensures within { IfSome result (λ begun. ReportsWithin self.now.identity.who self.now.oal.length begun.0) }
         // no wish is known yet
         ensures why { IfSome result (λ begun. begun.1 ≡ Why.Stuck) }
     {

@@ -1,27 +1,31 @@
 //! A ballot's way to a group.
 
-use crate::state::State;
+use crate::state::{Purpose, State};
 use group_book::add;
 use group_maker::{Made, make_group};
 use slot_election::complete;
 use tw_num::Moment;
-use tw_types::{Ballot, Decision, Outputs, Reason, Report};
+use tw_types::{Ballot, Decision, Outputs, Reason, Report, UpdateId};
 
 impl State {
-    ghost use Rattle.std.specs.Prelude.{◌≡◌, ◌<◌, ◌≤◌, ◌+◌, ◌^◌, length, IfSome};
+    ghost use Rattle.std.specs.Prelude.{◌≡◌, ◌<◌, ◌≤◌, ◌+◌, ◌^◌, length, Some, None, IfSome, IfOk, IfErr};
     ghost use Rattle.std.specs.Option.{option_copied, option_and_then};
     ghost use Rattle.tw_types.specs.declared.team.Team.{Team as TeamSeen};
     ghost use Rattle.tw_types.specs.declared.outputs.Outputs.{Outputs as OutputsSeen};
     ghost use Rattle.tw_types.specs.BallotFits.{IsPromise, IsBallot};
-    ghost use Rattle.tw_types.specs.Ranges.{DecisionFits};
+    ghost use Rattle.tw_types.specs.declared.ballot.Ballot.{Ballot as BallotSeen};
+    ghost use Rattle.tw_types.specs.Logs.{fit_tests_at};
+    ghost use Rattle.tw_types.specs.Process.{Process};
+    ghost use Rattle.tw_types.specs.Ranges.{IdFits, DecisionFits};
+    ghost use Rattle.tw_types.specs.Refusals.{first_refusal};
+    ghost use Rattle.tw_types.specs.Waiting.{payloads_of};
     ghost use Rattle.tw_machine.specs.Run.{Run};
-    ghost use Rattle.tw_machine.specs.Standing.{member_of};
-    ghost use Rattle.tw_machine.specs.Grouping.{take_promise, make_group};
-    ghost use Rattle.node_core.specs.InRange.{IsInRange};
-    ghost use Rattle.node_core.specs.Outcomes.{group_if_complete};
+    ghost use Rattle.tw_machine.specs.Grouping.{take_promise, best_held, make_group};
+    ghost use Rattle.node_core.specs.InRange.{IsInRange, ReportsWithin};
+    ghost use Rattle.node_core.specs.Outcomes.{made_if_complete, run_made, best_of};
     ghost use Rattle.node_core.specs.Moments.{MomentFits};
     ghost use Rattle.node_core.specs.Sends.{GivesMore};
-    ghost use Rattle.node_core.specs.StandsFor.{RunStandsFor, identity_seen};
+    ghost use Rattle.node_core.specs.StandsFor.{StandsFor, RunStandsFor};
 
     /// Adds a promise that came in time to the ballot of its number. Answers why it isn't, if it isn't.
     #[inline(never)]
@@ -56,36 +60,112 @@ impl State {
         }
     }
 
-    /// The group that a ballot makes at the reading `t` of team time, if it is complete and makes one.
-    fn group_of(&self, ballot: &Ballot, t: u64) -> Option<Decision>
+    /// The group that a ballot makes at the reading `t` of team time, if it is complete and makes one, or the update without
+    /// whose payload it makes none.
+    fn made_of(&self, ballot: &Ballot, t: u64) -> Option<Result<Decision, UpdateId>>
+        requires fits { IsInRange self.now }
         requires ballot { IsBallot self.now.team.n ballot.now }
+        requires within { ReportsWithin self.now.identity.who self.now.oal.length ballot.now }
         requires reading { t < 2 ^ 60 }
-        ensures exact { result ≡ group_if_complete self.now.team (member_of (identity_seen self.now.identity)) t ballot.now }
-        ensures fits { IfSome result (DecisionFits self.now.team.n) }
+        ensures exact { (p : Process) → StandsFor self.now p → result ≡ made_if_complete self.now.team t p ballot.now }
+        ensures fits { IfSome result (λ made. IfOk made (DecisionFits self.now.team.n)) }
+        ensures id { IfSome result (λ made. IfErr made (IdFits self.now.team.n)) }
+        ensures list { IfSome result (λ made. IfOk made (λ d.
+            first_refusal (fit_tests_at self.now.oal.length self.now.oal.passed (payloads_of self.now.store.waiting) d) ≡ None)) }
+        ensures number { IfSome result (λ made. IfOk made (λ d. d.group ≡ ballot.now.number)) }
     {
         if !complete(&self.team, ballot, t) {
             return None;
         }
-        match make_group(&self.team, ballot, self.member(), t) {
-            Made::Group(d) => Some(d),
-            _ => None,
+        match make_group(&self.team, ballot, &self.oal, &self.store, self.member(), t) {
+            Made::Group(d) => Some(Ok(d)),
+            Made::Missing(id) => Some(Err(id)),
+            Made::TooFew | Made::NotConsistent | Made::Behind | Made::Spent => None,
         }
     }
 
-    /// The group that the ballot makes at the reading `t` of team time, if there is a ballot that makes one.
-    fn group(&self, t: u64) -> Option<Decision>
+    /// The same of the ballot that the process holds, if it holds one.
+    fn made(&self, t: u64) -> Option<Result<Decision, UpdateId>>
         requires fits { IsInRange self.now }
         requires reading { t < 2 ^ 60 }
-        ensures exact { result ≡ option_and_then (group_if_complete self.now.team (member_of (identity_seen self.now.identity)) t) self.now.ballot }
-        ensures fits { IfSome result (DecisionFits self.now.team.n) }
+        ensures exact { (p : Process) → StandsFor self.now p → result ≡ option_and_then (made_if_complete self.now.team t p) self.now.ballot }
+        ensures fits { IfSome result (λ made. IfOk made (DecisionFits self.now.team.n)) }
+        ensures id { IfSome result (λ made. IfErr made (IdFits self.now.team.n)) }
+        ensures list { IfSome result (λ made. IfOk made (λ d.
+            first_refusal (fit_tests_at self.now.oal.length self.now.oal.passed (payloads_of self.now.store.waiting) d) ≡ None)) }
+        ensures number { IfSome result (λ made. IfOk made (λ d. d.group ≤ self.now.vote.promised)) }
     {
         match &self.ballot {
             None => None,
-            Some(ballot) => self.group_of(ballot, t),
+            Some(ballot) => self.made_of(ballot, t),
         }
     }
 
-    /// Makes a group of the ballot, where it is complete and makes one. It takes the ballot away then.
+    /// Holds the best decision of the ballot, of which this payload is missing, for the group that is to be made from it. Asks a
+    /// process that has it. The ballot stays.
+    fn hold_best(&mut self, now: &Moment, id: UpdateId, out: &mut Outputs)
+        requires fits { IsInRange self.old }
+        requires now { MomentFits now.now }
+        requires id { IdFits self.old.team.n id }
+        requires room { length out.old.sends + 1 ≤ 64 }
+        ensures stands { (team : TeamSeen) (ballot : BallotSeen) (r : Run) → r.process.ballot ≡ Some ballot → RunStandsFor team self.old out.old r →
+            RunStandsFor team self.new out.new (best_held now.now ballot id r) }
+        ensures gives { GivesMore self.old.team.n 1 out.old out.new }
+        ensures fits { IsInRange self.new }
+        ensures team { self.new.team ≡ self.old.team }
+    {
+        if let Some((best, source)) = self.best() {
+            self.hold_for(now, Purpose::ToGroup, &best, source, id, out);
+        }
+    }
+
+    /// A copy of the ballot's best decision, and the process to ask for its payloads.
+    fn best(&self) -> Option<(Decision, u8)>
+        requires fits { IsInRange self.now }
+        ensures exact { result ≡ option_and_then best_of self.now.ballot }
+        ensures fits { IfSome result (λ best. DecisionFits self.now.team.n best.0) }
+        ensures source { IfSome result (λ best. best.1 < self.now.team.n) }
+    {
+        let ballot = self.ballot.as_ref()?;
+        let best = ballot.best.as_ref()?;
+        Some((best.copy(), ballot.best_from))
+    }
+
+    /// Begins the group that is made of the ballot, and takes the ballot away. Where a payload is missing for that, holds the
+    /// ballot's best decision.
+    fn begin_or_hold(
+        &mut self,
+        now: &Moment,
+        made: Result<Decision, UpdateId>,
+        t: u64,
+        out: &mut Outputs,
+    )
+        requires fits { IsInRange self.old }
+        requires now { MomentFits now.now }
+        requires decision { IfOk made (DecisionFits self.old.team.n) }
+        requires number { IfOk made (λ d. d.group ≤ self.old.vote.promised) }
+        requires list { IfOk made (λ d.
+            first_refusal (fit_tests_at self.old.oal.length self.old.oal.passed (payloads_of self.old.store.waiting) d) ≡ None) }
+        requires id { IfErr made (IdFits self.old.team.n) }
+        requires reading { t < 2 ^ 60 }
+        requires room { length out.old.sends + 14 ≤ 64 }
+        ensures stands { (team : TeamSeen) (ballot : BallotSeen) (r : Run) → r.process.ballot ≡ Some ballot → RunStandsFor team self.old out.old r →
+            RunStandsFor team self.new out.new (run_made team now.now t r ballot (Some made)) }
+        ensures gives { GivesMore self.old.team.n 14 out.old out.new }
+        ensures fits { IsInRange self.new }
+        ensures team { self.new.team ≡ self.old.team }
+    {
+        match made {
+            Ok(d) => {
+                self.ballot = None;
+                self.make_decision(now, d, t, out);
+            }
+            Err(id) => self.hold_best(now, id, out),
+        }
+    }
+
+    /// Makes a group of the ballot, where it is complete and makes one. Where a payload is missing for that, the ballot's best
+    /// decision is held, and the ballot stays.
     pub fn make_group(&mut self, now: &Moment, t: u64, out: &mut Outputs)
         requires fits { IsInRange self.old }
         requires now { MomentFits now.now }
@@ -97,9 +177,8 @@ impl State {
         ensures fits { IsInRange self.new }
         ensures team { self.new.team ≡ self.old.team }
     {
-        if let Some(d) = self.group(t) {
-            self.ballot = None;
-            self.make_decision(now, d, t, out);
+        if let Some(made) = self.made(t) {
+            self.begin_or_hold(now, made, t, out);
         }
     }
 }

@@ -2,8 +2,9 @@
 //!
 //! Rules held here: an event runs through the parts of a step, each with a function of its own that meets the part's
 //! definition. A packet is read and taken or dropped; what it tells of time is noted and given to the clock; the clock is read,
-//! whether or not the event is dropped; then the event's own rule runs, unless it was dropped; and then the duties run. No part
-//! takes memory.
+//! whether or not the event is dropped; then the event's own rule runs, unless it was dropped; and then the duties run. A decision
+//! goes on the list where all of its payloads are there; one that lacks a payload is held, and that payload is asked for. Memory is
+//! taken where a process is made, and never later.
 #![tactic(auto)]
 
 mod beat;
@@ -11,6 +12,7 @@ mod control;
 mod deciding;
 mod duties;
 mod electing;
+mod entering;
 mod grouping;
 mod hearing;
 mod packet;
@@ -22,7 +24,7 @@ mod taking;
 mod timing;
 
 pub use process::{Core, Event};
-pub use state::{Belief, Identity, State, Vote};
+pub use state::{Belief, Hold, Identity, Purpose, State, Vote};
 pub use tw_types::{Answer, Earlies, Mode, Outputs, Passes, ProposeFault, Reason, Sends, View};
 
 #[cfg(test)]

@@ -1,30 +1,23 @@
 //! Which packets a process takes.
 
 ghost use Rattle.std.specs.Prelude.{◌≡◌, ◌<◌, OnOk};
-ghost use Rattle.tw_machine.specs.Packet.{has_no_list, is_taken, is_stranger, admitted};
+ghost use Rattle.tw_machine.specs.Packet.{is_taken, is_stranger, admitted};
 ghost use Rattle.tw_types.specs.Ranges.{DatagramFits};
 ghost use Rattle.tw_types.specs.Team.{IsSound};
 ghost use Rattle.wire_body.specs.Reading.{datagram_at};
 ghost use Rattle.node_core.specs.Inbox.{taken_in};
 
-use tw_types::{Body, Datagram, Decision, Head, Reason, Team, WireFault};
+use tw_types::{Body, Datagram, Head, Reason, Team, WireFault};
 use wire_body::read_into;
-
-/// Whether a decision speaks of no update.
-fn has_no_list(decision: &Decision) -> bool
-    ensures { result ≡ has_no_list decision.now }
-{
-    decision.low == 0 && decision.window.is_empty()
-}
 
 /// Whether processes take such a datagram today.
 fn is_taken(body: &Body) -> bool
     ensures { result ≡ is_taken body.now }
 {
     match body {
-        Body::Election { .. } | Body::Sync { .. } => true,
-        Body::Decision(decision) => has_no_list(decision),
-        Body::Promise { decision, .. } => decision.as_ref().is_none_or(has_no_list),
+        Body::Decision(_) | Body::Election { .. } | Body::Promise { .. } | Body::Sync { .. } => {
+            true
+        }
         Body::Update(_) | Body::NoDecision { .. } | Body::Ask(_) | Body::State { .. } => false,
     }
 }

@@ -53,7 +53,7 @@ impl Core {
     ghost use Rattle.node_core.specs.Sends.{IsSendable};
     ghost use Rattle.node_core.specs.StandsFor.{StandsFor};
 
-    /// The process `who` of a sound team, which starts at its reading `h`.
+    /// The process `who` of a sound team, which starts at its reading `h`. Where memory is refused nothing is kept.
     pub fn new(alloc: Global, team: Team, who: u8, mode: Mode, h: u64) -> Result<Core, WantOfMemory>
         requires sound { IsSound team }
         requires who { who < team.n }
@@ -61,9 +61,8 @@ impl Core {
         ensures stands { IfOk result (λ core. StandsFor core (started who mode h)) }
         ensures team { IfOk result (λ core. core.team ≡ team) }
     {
-        let _ = alloc;
         Ok(Core {
-            state: State::new(team, who, mode, h),
+            state: State::new(alloc, team, who, mode, h)?,
             inbox: blank(),
         })
     }
@@ -160,8 +159,8 @@ impl State {
             up: self.is_up(reading),
             group,
             turn,
-            length: 0,
-            passed: 0,
+            length: self.oal.length(),
+            passed: self.oal.passed(),
         }
     }
 }

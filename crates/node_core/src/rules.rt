@@ -42,7 +42,7 @@ impl State {
         match body {
             Body::Decision(decision) => match self.timely_reading(now, head) {
                 Err(reason) => Some(reason),
-                Ok(_) => self.take_decision(decision),
+                Ok(_) => self.take_decision(now, decision, out),
             },
             Body::Election { number, why } => match self.timely_reading(now, head) {
                 Err(reason) => Some(reason),

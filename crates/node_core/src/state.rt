@@ -6,7 +6,11 @@ ghost use Rattle.tw_types.specs.Team.{IsSound};
 
 use crate::beat::Beat;
 use crate::timing::Timing;
+use oal::Oal;
+use std::alloc::Global;
+use tw_num::WantOfMemory;
 use tw_types::{Ballot, Decision, Kind, Member, Mode, Report, Team};
+use update_store::Store;
 
 /// Who a process is.
 #[derive(Clone, Copy, Debug, PartialEq, Eq)]
@@ -77,6 +81,23 @@ impl Belief {
     }
 }
 
+/// What a held decision is for.
+#[derive(Clone, Copy, Debug, PartialEq, Eq)]
+pub enum Purpose {
+    /// It is to be taken.
+    ToTake,
+    /// A group is to be made from it.
+    ToGroup,
+}
+
+/// For what a decision is held.
+#[derive(Clone, Copy, Debug)]
+pub struct Hold {
+    pub purpose: Purpose,
+    /// The number of the group that the process had promised when it was held.
+    pub promised: u64,
+}
+
 /// All that a process keeps.
 #[derive(Debug, Drop)]
 pub struct State {
@@ -88,13 +109,19 @@ pub struct State {
     /// The ballot that it holds, where it holds an election.
     pub ballot: Option<Ballot>,
     pub belief: Belief,
+    /// The list of updates.
+    pub oal: Oal,
+    /// The updates that wait, and a decision that is held since payloads of it are missing.
+    pub store: Store,
+    /// For what a decision is held, where one is.
+    pub hold: Option<Hold>,
     ghost sound: { IsSound team } by { Prim.hlevel props },
     ghost who: { identity.who < team.n },
     ghost incarnation: { identity.incarnation < 2 ^ 60 },
 }
 
 impl State {
-    ghost use Rattle.std.specs.Prelude.{◌≡◌, ◌<◌, ◌^◌};
+    ghost use Rattle.std.specs.Prelude.{◌≡◌, ◌<◌, ◌^◌, IfOk};
     ghost use Rattle.tw_types.specs.Ranges.{ReportFits};
     ghost use Rattle.tw_types.specs.Beliefs.{view_decision};
     ghost use Rattle.tw_types.specs.Decisions.{or_none};
@@ -106,16 +133,24 @@ impl State {
     ghost use Rattle.node_core.specs.InRange.{IsInRange};
     ghost use Rattle.node_core.specs.StandsFor.{StandsFor, identity_seen, belief_seen};
 
-    /// The process `who` of a sound team, which starts at its reading `h`.
-    pub fn new(team: Team, who: u8, mode: Mode, h: u64) -> State
+    /// The process `who` of a sound team, which starts at its reading `h`. Where memory is refused nothing is kept.
+    pub fn new(
+        alloc: Global,
+        team: Team,
+        who: u8,
+        mode: Mode,
+        h: u64,
+    ) -> Result<State, WantOfMemory>
         requires sound { IsSound team }
         requires who { who < team.n }
         requires reading { h < 2 ^ 60 }
-        ensures stands { StandsFor result (started who mode h) }
-        ensures fits { IsInRange result }
-        ensures team { result.team ≡ team }
+        ensures stands { IfOk result (λ s. StandsFor s (started who mode h)) }
+        ensures fits { IfOk result IsInRange }
+        ensures team { IfOk result (λ s. s.team ≡ team) }
     {
-        State {
+        let oal = Oal::new(alloc)?;
+        let store = Store::new(alloc, team.n)?;
+        Ok(State {
             team,
             identity: Identity {
                 who,
@@ -134,7 +169,10 @@ impl State {
                 Mode::First => Belief::Informed(None),
                 Mode::Again => Belief::Blank(None),
             },
-        }
+            oal,
+            store,
+            hold: None,
+        })
     }
 
     /// The process in its present life.
@@ -167,6 +205,7 @@ impl State {
         ensures kind { result.kind ≡ kind_of (belief_seen self.now.belief) }
         ensures group { result.group ≡ (or_none (view_decision (belief_seen self.now.belief))).group }
         ensures turn { result.turn ≡ (or_none (view_decision (belief_seen self.now.belief))).turn }
+        ensures length { result.length ≡ self.now.oal.length }
     {
         let (group, turn) = self
             .belief
@@ -182,7 +221,7 @@ impl State {
             kind,
             group,
             turn,
-            length: 0,
+            length: self.oal.length(),
             support: self.vote.support,
             reading: t,
         }

@@ -2,15 +2,14 @@
 
 ghost use Rattle.std.specs.Prelude.{◌≡◌, ◌<◌, ◌^◌};
 ghost use Rattle.tw_types.specs.Team.{IsSound};
-ghost use Rattle.tw_types.specs.Beliefs.{no_log};
 ghost use Rattle.tw_types.specs.Flag.{counts, is_supported};
-ghost use Rattle.tw_types.specs.Refusals.{first_refusal};
-ghost use Rattle.tw_types.specs.Logs.{list_tests};
 ghost use Rattle.decider.specs.Checks.{take_reason};
 
-use crate::state::{Belief, State};
+use crate::state::{Purpose, State};
 use decider::{TakeFault, first_check};
-use tw_types::{Decision, Reason, Support, Team, maj};
+use oal::ExtendFault;
+use tw_num::Moment;
+use tw_types::{Decision, Outputs, Reason, Support, Team, maj};
 
 /// Whether a support counts at team time `t`, in microseconds: for the length of a lease.
 fn counts(team: &Team, t: u64, support: Option<Support>) -> bool
@@ -43,32 +42,19 @@ fn reason(fault: TakeFault) -> Reason
     }
 }
 
-/// Why the window of a decision doesn't go on an empty list.
-fn refuse_window(d: &Decision) -> Option<Reason>
-    requires { d.now.low < 2 ^ 61 }
-    ensures { result ≡ first_refusal (list_tests no_log d.now) }
-{
-    let length = d.low + d.window.len() as u64;
-    if 0 < d.low {
-        return Some(Reason::Gap);
-    }
-    if 64 < length {
-        return Some(Reason::Behind);
-    }
-    None
-}
-
 impl State {
-    ghost use Rattle.std.specs.Prelude.{◌≡◌, IfNone};
+    ghost use Rattle.std.specs.Prelude.{◌≡◌, ◌≤◌, ◌+◌, length, IfNone};
     ghost use Rattle.tw_types.specs.declared.team.Team.{Team as TeamSeen};
-    ghost use Rattle.tw_types.specs.declared.outputs.Outputs.{Outputs as OutputsSeen};
     ghost use Rattle.tw_types.specs.Flag.{is_up};
     ghost use Rattle.tw_types.specs.Process.{Process};
     ghost use Rattle.tw_types.specs.Ranges.{DecisionFits};
     ghost use Rattle.tw_types.specs.Refusals.{first_refusal};
     ghost use Rattle.tw_machine.specs.Run.{Run};
+    ghost use Rattle.tw_machine.specs.Entering.{enter_decision};
     ghost use Rattle.tw_machine.specs.Taking.{decision_tests, take_decision};
     ghost use Rattle.node_core.specs.InRange.{IsInRange};
+    ghost use Rattle.node_core.specs.Moments.{MomentFits};
+    ghost use Rattle.node_core.specs.Sends.{GivesMore};
     ghost use Rattle.node_core.specs.StandsFor.{StandsFor, RunStandsFor, belief_seen, vote_seen};
 
     /// Whether the process may believe its group at its reading of team time: the group started, and a majority supports it.
@@ -82,9 +68,8 @@ impl State {
         }
     }
 
-    /// Why the process doesn't take a decision. A blank process follows nothing yet.
+    /// Why the process doesn't want a decision, whatever its list. A blank process follows nothing yet.
     fn refuse_decision(&self, d: &Decision) -> Option<Reason>
-        requires decision { DecisionFits self.now.team.n d.now }
         ensures exact { (p : Process) → StandsFor self.now p → result ≡ first_refusal (decision_tests p d.now) }
         // what is taken is of the promised group
         ensures promised { IfNone result (d.now.group ≡ self.now.vote.promised) }
@@ -100,26 +85,58 @@ impl State {
         match first {
             Err(fault) => Some(reason(fault)),
             Ok(_) if !informed => Some(Reason::NotMember),
-            Ok(_) => refuse_window(d),
+            Ok(_) => None,
+        }
+    }
+
+    /// Takes a decision of the promised group where it goes on the list. Holds one that lacks a payload, and asks its maker for
+    /// that. Answers why it isn't taken, if it isn't.
+    fn enter_decision(&mut self, now: &Moment, d: &Decision, out: &mut Outputs) -> Option<Reason>
+        requires fits { IsInRange self.old }
+        requires now { MomentFits now.now }
+        requires decision { DecisionFits self.old.team.n d.now }
+        requires promised { d.now.group ≡ self.old.vote.promised }
+        requires room { length out.old.sends + 1 ≤ 64 }
+        ensures stands { (team : TeamSeen) (r : Run) → RunStandsFor team self.old out.old r →
+            RunStandsFor team self.new out.new (enter_decision now.now d.now r).run }
+        ensures dropped { (team : TeamSeen) (r : Run) → RunStandsFor team self.old out.old r →
+            result ≡ (enter_decision now.now d.now r).dropped }
+        ensures gives { GivesMore self.old.team.n 1 out.old out.new }
+        ensures fits { IsInRange self.new }
+        ensures team { self.new.team ≡ self.old.team }
+    {
+        match self.fits_list(d) {
+            Ok(()) => {
+                self.enter(d);
+                None
+            }
+            Err(ExtendFault::Missing(id)) => {
+                self.hold_for(now, Purpose::ToTake, d, d.maker, id, out);
+                Some(Reason::Missing(id))
+            }
+            Err(ExtendFault::Gap) => Some(Reason::Gap),
+            Err(ExtendFault::Behind) => Some(Reason::Behind),
         }
     }
 
     /// Takes a decision that came in time, if nothing is against it. Answers what is.
     #[inline(never)]
-    pub fn take_decision(&mut self, d: &Decision) -> Option<Reason>
+    pub fn take_decision(&mut self, now: &Moment, d: &Decision, out: &mut Outputs) -> Option<Reason>
         requires fits { IsInRange self.old }
+        requires now { MomentFits now.now }
         requires decision { DecisionFits self.old.team.n d.now }
-        ensures stands { (team : TeamSeen) (out : OutputsSeen) (r : Run) → RunStandsFor team self.old out r →
-            RunStandsFor team self.new out (take_decision d.now r).run }
-        ensures dropped { (team : TeamSeen) (out : OutputsSeen) (r : Run) → RunStandsFor team self.old out r →
-            result ≡ (take_decision d.now r).dropped }
+        requires room { length out.old.sends + 1 ≤ 64 }
+        ensures stands { (team : TeamSeen) (r : Run) → RunStandsFor team self.old out.old r →
+            RunStandsFor team self.new out.new (take_decision now.now d.now r).run }
+        ensures dropped { (team : TeamSeen) (r : Run) → RunStandsFor team self.old out.old r →
+            result ≡ (take_decision now.now d.now r).dropped }
+        ensures gives { GivesMore self.old.team.n 1 out.old out.new }
         ensures fits { IsInRange self.new }
         ensures team { self.new.team ≡ self.old.team }
     {
-        let refused = self.refuse_decision(d);
-        if refused.is_none() {
-            self.belief = Belief::Informed(Some(d.copy()));
+        if let Some(reason) = self.refuse_decision(d) {
+            return Some(reason);
         }
-        refused
+        self.enter_decision(now, d, out)
     }
 }

@@ -6,7 +6,9 @@ use std::alloc::Global;
 use std::mem::size_of;
 use std::test::Fail;
 use tw_num::{Interval, WantOfMemory};
-use tw_types::{Answer, Body, Datagram, Echo, Head, Mode, Outputs, Reason, Team, WireFault};
+use tw_types::{
+    Answer, Body, Datagram, Echo, Head, Mode, Outputs, Reason, Team, UpdateId, Want, WireFault,
+};
 use wire_body::write;
 
 /// A sound team of three processes with exact clocks.
@@ -235,12 +237,12 @@ fn spell(bytes: &mut Vec<u8>, fields: &[Field]) -> Result<(), WantOfMemory> {
     Ok(())
 }
 
-/// The bytes of a datagram of this kind from a process that started at 5 to process 1. It tells that team time is `told`, or
-/// nothing of it.
+/// The bytes of a datagram of this kind from a process that started at 5. It tells that team time is `told`, or nothing of it.
 fn packet(
     alloc: Global,
     kind: u8,
     from: u8,
+    to: u8,
     told: Option<u32>,
     body: &[Field],
 ) -> Result<Vec<u8>, WantOfMemory> {
@@ -249,7 +251,7 @@ fn packet(
     let mut bytes = Vec::new(alloc);
     let head = [Field::One(1), Field::One(kind), Field::Four(7)];
     spell(&mut bytes, &head)?;
-    spell(&mut bytes, &[Field::One(from), Field::One(1)])?;
+    spell(&mut bytes, &[Field::One(from), Field::One(to)])?;
     spell(&mut bytes, &[Field::Eight(5), Field::Eight(10)])?;
     spell(&mut bytes, &[Field::One(flags)])?;
     spell(&mut bytes, &[Field::Eight(time); 2])?;
@@ -262,11 +264,12 @@ fn packet(
 fn election(
     alloc: Global,
     from: u8,
+    to: u8,
     number: u64,
     told: Option<u32>,
 ) -> Result<Vec<u8>, WantOfMemory> {
     let body = [Field::Eight(number), Field::One(0), Field::Eight(0)];
-    packet(alloc, 4, from, told, &body)
+    packet(alloc, 4, from, to, told, &body)
 }
 
 /// What process 1, which started so at 5, answers to a datagram at its reading `h`, at which it knows team time to lie from
@@ -311,7 +314,7 @@ fn quarantine(rt: HostRuntime) -> Result<(), Fail> {
         (Mode::First, QUARANTINED, 2, 12, Some(Reason::OutOfWindow)),
     ];
     for (mode, h, from, number, reason) in table {
-        let datagram = election(alloc, from, number, Some(h))?;
+        let datagram = election(alloc, from, 1, number, Some(h))?;
         let answer = answer_to(alloc, mode, h, 0, &datagram)?;
         assert_eq!(rt;
             answer,
@@ -335,7 +338,7 @@ fn before_quarantine(rt: HostRuntime) -> Result<(), Fail> {
         (Some(QUARANTINED), 1_998, Reason::Quarantine),
     ];
     for (told, width, reason) in table {
-        let datagram = election(alloc, 0, 12, told)?;
+        let datagram = election(alloc, 0, 1, 12, told)?;
         let answer = answer_to(alloc, Mode::Again, QUARANTINED, width, &datagram)?;
         assert_eq!(rt; answer, Answer::Dropped(reason));
     }
@@ -390,14 +393,218 @@ const PROMISE: [Field; 11] = [
 fn started_again(rt: HostRuntime) -> Result<(), Fail> {
     let alloc = rt.alloc();
     for h in [QUARANTINED, FREE] {
-        let group = packet(alloc, 2, 0, Some(h), &GROUP)?;
-        let promise = packet(alloc, 5, 0, Some(h), &PROMISE)?;
+        let group = packet(alloc, 2, 0, 1, Some(h), &GROUP)?;
+        let promise = packet(alloc, 5, 0, 1, Some(h), &PROMISE)?;
         let answer = answer_to(alloc, Mode::Again, h, 0, &group)?;
         assert_eq!(rt; answer, Answer::Dropped(Reason::NotMember));
         let answer = answer_to(alloc, Mode::Again, h, 0, &promise)?;
         assert_eq!(rt; answer, Answer::Dropped(Reason::Old));
         let answer = answer_to(alloc, Mode::First, h, 0, &group)?;
         assert_eq!(rt; answer, Answer::Dropped(Reason::Promised(0)));
+    }
+    Ok(())
+}
+
+/// A seat of a process that started at 699990, with the support of this moment.
+fn seat(who: u8, at: u32) -> [Field; 6] {
+    [
+        Field::One(who),
+        Field::Eight(699_990),
+        Field::Four(1),
+        Field::One(1),
+        Field::Eight(0),
+        Field::Eight(at.into()),
+    ]
+}
+
+/// An update of process 1.
+fn update(seq: u32) -> UpdateId {
+    UpdateId {
+        who: 1,
+        incarnation: 699_990,
+        seq,
+    }
+}
+
+/// Decision 7.`turn` of this maker at `made`, from position `low` on, with so many updates of process 1, as it is sent to process 0.
+fn decision(
+    alloc: Global,
+    turn: u8,
+    maker: u8,
+    made: u32,
+    low: u8,
+    updates: u8,
+) -> Result<Vec<u8>, WantOfMemory> {
+    let mut body = Vec::new(alloc);
+    body.extend_from_slice(&[Field::Eight(7), Field::Eight(turn.into())])?;
+    body.extend_from_slice(&[Field::Eight(made.into()), Field::Eight(701_001)])?;
+    body.extend_from_slice(&[Field::Eight(low.into()), Field::Eight(0)])?;
+    body.extend_from_slice(&[Field::One(0), Field::Four(0), Field::One(3)])?;
+    for who in 0..3 {
+        body.extend_from_slice(&seat(who, made))?;
+    }
+    body.extend_from_slice(&[Field::One(maker), Field::One(updates)])?;
+    for seq in 0..updates {
+        let id = update(u32::from(seq) + 1);
+        body.extend_from_slice(&[Field::One(id.who), Field::Eight(id.incarnation)])?;
+        body.extend_from_slice(&[Field::Four(id.seq), Field::One(3), Field::Eight(0)])?;
+    }
+    packet(alloc, 2, maker, 0, Some(made), &body)
+}
+
+/// Whether the process is told to ask this one, and no other, for the first update of process 1.
+fn asks_for_the_first(out: &Outputs, asked: Option<u8>) -> bool {
+    let mut asks = None;
+    for (to, datagram) in out.sends.as_slice() {
+        if let Body::Ask(want) = &datagram.body {
+            if asks.is_some() || *want != Want::Update(update(1)) {
+                return false;
+            }
+            asks = Some(*to);
+        }
+    }
+    asks == asked
+}
+
+/// Whether the process answers so to the bytes at `h`, and asks this process, or none, for the first update of process 1.
+fn answers(
+    core: &mut Core,
+    out: &mut Outputs,
+    h: u32,
+    datagram: &[u8],
+    reason: Option<Reason>,
+    asked: Option<u8>,
+) -> bool {
+    let answer = core.step(Event::Packet(datagram), h.into(), out);
+    answer == reason.map_or(Answer::Done, Answer::Dropped) && asks_for_the_first(out, asked)
+}
+
+/// The same of a tick.
+fn ticks(core: &mut Core, out: &mut Outputs, h: u32, asked: Option<u8>) -> bool {
+    let answer = core.step(Event::Tick, h.into(), out);
+    answer == Answer::Done && asks_for_the_first(out, asked)
+}
+
+/// Process 0 took decision 7.1. One that lacks payloads is held, and its maker is asked for the first of them, also at each beat.
+/// A further one takes its place. What isn't above a decision that is taken goes, and else stays held.
+#[test]
+fn held_decisions(rt: HostRuntime) -> Result<(), Fail> {
+    let alloc = rt.alloc();
+    let mut out = Outputs::new(alloc)?;
+    let mut core = Core::new(alloc, TEAM, 0, Mode::First, 699_990)?;
+    let _ = core.step(
+        Event::Reference {
+            lo: 700_000,
+            hi: 700_000,
+        },
+        700_000,
+        &mut out,
+    );
+    let call = election(alloc, 1, 0, 7, Some(701_000))?;
+    assert!(rt; answers(&mut core, &mut out, 701_000, &call, None, None));
+    let missing = Some(Reason::Missing(update(1)));
+    let before = [
+        (713_000, 1, 2, 0, 0, None, None),
+        (714_000, 2, 1, 0, 2, missing, Some(1)),
+    ];
+    for (h, turn, maker, low, updates, reason, asked) in before {
+        let datagram = decision(alloc, turn, maker, h, low, updates)?;
+        assert!(rt;
+            answers(&mut core, &mut out, h, &datagram, reason, asked),
+            "7.{turn} at {h}"
+        );
+    }
+    assert!(rt; ticks(&mut core, &mut out, 721_000, Some(1)));
+    let after = [
+        (721_100, 3, 2, 0, 2, missing, Some(2)),
+        (721_200, 2, 1, 1, 1, Some(Reason::Gap), None),
+        (721_300, 2, 1, 0, 0, None, None),
+    ];
+    for (h, turn, maker, low, updates, reason, asked) in after {
+        let datagram = decision(alloc, turn, maker, h, low, updates)?;
+        assert!(rt;
+            answers(&mut core, &mut out, h, &datagram, reason, asked),
+            "7.{turn} at {h}"
+        );
+    }
+    assert!(rt; ticks(&mut core, &mut out, 741_000, Some(2)));
+    Ok(())
+}
+
+/// An update without a payload, what asks for a table, and a piece of content of one byte.
+const UPDATE: [Field; 7] = [
+    Field::One(0),
+    Field::Eight(5),
+    Field::Four(1),
+    Field::One(3),
+    Field::Eight(5),
+    Field::One(0),
+    Field::One(0),
+];
+
+const ASK: [Field; 2] = [Field::One(1), Field::Eight(7)];
+
+const STATE: [Field; 9] = [
+    Field::Eight(7),
+    Field::Eight(0),
+    Field::One(0),
+    Field::One(1),
+    Field::One(0),
+    Field::One(0),
+    Field::One(0),
+    Field::One(1),
+    Field::One(9),
+];
+
+/// A no-decision of number 21 by the report of process 0, but for the decision of group 12 that it ends with.
+const ROUND: [Field; 14] = [
+    Field::Eight(21),
+    Field::Eight(12),
+    Field::Eight(0),
+    Field::One(2),
+    Field::One(1),
+    Field::One(0),
+    Field::Eight(5),
+    Field::One(0),
+    Field::Eight(12),
+    Field::Eight(0),
+    Field::Eight(0),
+    Field::One(0),
+    Field::Eight(0),
+    Field::Eight(1_104_000),
+];
+
+/// What a process that was just started answers to the datagram of this kind that is sent to process 1.
+fn answer_of(
+    alloc: Global,
+    who: u8,
+    from: u8,
+    kind: u8,
+    body: &[Field],
+    end: &[Field],
+) -> Result<Answer, WantOfMemory>
+    requires { who < 3 }
+{
+    let mut out = Outputs::new(alloc)?;
+    let mut core = process(alloc, who)?;
+    let mut datagram = packet(alloc, kind, from, 1, None, body)?;
+    spell(&mut datagram, end)?;
+    Ok(core.step(Event::Packet(&datagram), 5, &mut out))
+}
+
+/// A kind that is not taken yet is refused for that, whoever sent the datagram and whoever it is for.
+#[test]
+fn kinds_that_are_not_taken(rt: HostRuntime) -> Result<(), Fail> {
+    let alloc = rt.alloc();
+    for (who, from) in [(1, 0), (2, 0), (1, 3), (1, 1)] {
+        let answers = [
+            answer_of(alloc, who, from, 1, &UPDATE, &[])?,
+            answer_of(alloc, who, from, 3, &ROUND, &GROUP)?,
+            answer_of(alloc, who, from, 6, &ASK, &[])?,
+            answer_of(alloc, who, from, 7, &STATE, &[])?,
+        ];
+        let unknown = Answer::Dropped(Reason::Wire(WireFault::Kind));
+        assert_eq!(rt; answers, [unknown; 4]);
     }
     Ok(())
 }

@@ -36,6 +36,8 @@ returns-clause-stands c = λ team r s.
         ballot = s.process.ballot;
         belief = s.process.belief;
         log = s.process.log;
+        waiting = s.process.waiting;
+        hold = s.process.hold;
       };
       given = s.given;
     })))
@@ -61,4 +63,9 @@ returns-clause-fits c = record {
   kept = later (view_decision (belief_seen c.args.self.now.belief)) (λ (d : Decision). d.group) c.args.self.now.vote.promised c.args.number c.requires.fits.kept (let more = above c in omega (arith, more));
   ballot = c.requires.fits.ballot;
   held = later c.args.self.now.ballot (λ (b : Ballot). b.number) c.args.self.now.vote.promised c.args.number c.requires.fits.held (let more = above c in omega (arith, more));
+  own = c.requires.fits.own;
+  within = c.requires.fits.within;
+  length = c.requires.fits.length;
+  log = c.requires.fits.log;
+  waiting = c.requires.fits.waiting;
 }

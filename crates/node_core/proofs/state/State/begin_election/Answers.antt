@@ -24,6 +24,8 @@ returns-in-Some-clause-stands c = λ team r s.
         ballot = ap (λ (b : Ballot). Some b) (sym m.ballot);
         belief = s.process.belief;
         log = s.process.log;
+        waiting = s.process.waiting;
+        hold = s.process.hold;
       };
       given = s.given;
     })))
@@ -42,4 +44,9 @@ returns-in-Some-clause-fits c = record {
   kept = later (view_decision (belief_seen c.args.self.now.belief)) (λ (d : Decision). d.group) c.args.self.now.vote.promised c.in-Some.ballot.number c.requires.fits.kept (omega (arith, c.in-Some.ensures.above));
   ballot = c.in-Some.ensures.fits;
   held = omega arith;
+  own = c.in-Some.ensures.own;
+  within = c.in-Some.ensures.within;
+  length = c.requires.fits.length;
+  log = c.requires.fits.log;
+  waiting = c.requires.fits.waiting;
 }

@@ -1,9 +1,10 @@
-use Rattle.std.proofs.Common.{◌∙◌, refl, sym, ap}
+use Rattle.std.proofs.Common.{◌∙◌, refl, sym, ap, arith}
+use Rattle.tw_types.specs.declared.message.Member.{Member}
 use Rattle.tw_types.specs.Beliefs.{last_of}
 use Rattle.tw_types.specs.Votes.{Vote}
 use Rattle.tw_types.specs.Promises.{is_quarantined}
 use Rattle.tw_machine.specs.Standing.{last_decision, report_by}
-use Rattle.node_core.proofs.Concerns.{held_by, begun_alike, only_stuck}
+use Rattle.node_core.proofs.Concerns.{held_by, begun_alike, begun_own, begun_within, only_stuck}
 use Rattle.node_core.proofs.state.State.election.Goals as goal
 
 pub returns-clause-held : goal.returns-clause-held
@@ -13,3 +14,9 @@ returns-clause-held c = λ team r same s. held_by team c.args.now.now c.args.t r
 
 pub returns-clause-why : goal.returns-clause-why
 returns-clause-why c = only_stuck c.args.self.now.team c.args.t _ _ c.args.self.now.vote.promised _ _ c.begin_slot.ensures.exact
+
+pub returns-clause-own : goal.returns-clause-own
+returns-clause-own c = begun_own c.args.self.now.team c.args.t _ _ c.args.self.now.vote.promised _ c.args.self.now.identity.who _ c.begin_slot.ensures.exact (ap (λ (m : Member). m.who) c.report.ensures.member)
+
+pub returns-clause-within : goal.returns-clause-within
+returns-clause-within c = begun_within c.args.self.now.team c.args.t _ _ c.args.self.now.vote.promised _ c.args.self.now.identity.who c.args.self.now.oal.length _ c.begin_slot.ensures.exact (omega (arith, c.report.ensures.length))

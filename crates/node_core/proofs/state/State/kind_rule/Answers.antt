@@ -9,13 +9,13 @@ pub returns-in-Ok-clause-stands : goal.returns-in-Ok-clause-stands
 returns-in-Ok-clause-stands c = λ team r s.
     let timely : timely_reading (rate_of team c.args.now.now c.args.head.now) c.args.now.now.reading ≡ Ok c.in-Ok.field-0 =
     ap (λ (x : Team). timely_reading (rate_of x c.args.now.now c.args.head.now) c.args.now.now.reading) (sym s.same_team) ∙ sym c.timely_reading.ensures.exact ∙ c.in-Ok.is in
-    rw (c.in-Decision.is, decision_rule team c.args.now.now c.args.head.now c.in-Decision.decision r c.in-Ok.field-0 timely) (c.take_decision.ensures.stands team c.args.out.now r s)
+    rw (c.in-Decision.is, decision_rule team c.args.now.now c.args.head.now c.in-Decision.decision r c.in-Ok.field-0 timely) (c.take_decision.ensures.stands team r s)
 
 pub returns-in-Ok-clause-dropped : goal.returns-in-Ok-clause-dropped
 returns-in-Ok-clause-dropped c = λ team r s.
     let timely : timely_reading (rate_of team c.args.now.now c.args.head.now) c.args.now.now.reading ≡ Ok c.in-Ok.field-0 =
     ap (λ (x : Team). timely_reading (rate_of x c.args.now.now c.args.head.now) c.args.now.now.reading) (sym s.same_team) ∙ sym c.timely_reading.ensures.exact ∙ c.in-Ok.is in
-    rw (c.in-Decision.is, decision_rule team c.args.now.now c.args.head.now c.in-Decision.decision r c.in-Ok.field-0 timely) (c.take_decision.ensures.dropped team c.args.out.now r s)
+    rw (c.in-Decision.is, decision_rule team c.args.now.now c.args.head.now c.in-Decision.decision r c.in-Ok.field-0 timely) (c.take_decision.ensures.dropped team r s)
 
 pub returns-in-Ok-timely_reading-2-clause-stands : goal.returns-in-Ok-timely_reading-2-clause-stands
 returns-in-Ok-timely_reading-2-clause-stands c = λ team r s.

@@ -51,7 +51,7 @@ ruled c p s known =
     let team = c.args.self.now.team in
     let before = begins c p s known in
     let read = read_by team c.args.h (event c) p in
-    let begun = read_stands team c.args.self.now _ c.args.h (event c) p _ s refl refl refl refl refl refl before.timing c.requires.empty in
+    let begun = read_stands team c.args.self.now _ c.args.h (event c) p _ s refl refl refl refl refl refl refl refl refl before.timing c.requires.empty in
     record {
       stands = subst (λ (k : Result (Option Datagram) Reason). RunStandsFor team c.rule-dropped.new.self c.rule-dropped.new.out (rule team (moment_of team c.args.h (event c) p) k read).run) before.packet
           (subst (λ (m : Moment). RunStandsFor team c.rule-dropped.new.self c.rule-dropped.new.out (rule team m (packet c) read).run) before.moment (c.rule-dropped.ensures.stands team read begun));

@@ -1,4 +1,5 @@
-//! What a whole text comes to: its status, and the rows before the line that ends it. It reads and writes nothing.
+//! What a whole text comes to: its status, and the rows before the line that ends it. The text is in memory, and so are the rows: no
+//! source is read here, and no sink is written.
 
 ghost use Rattle.std.specs.Prelude.{◌≡◌, ℕ, ◌≤◌, ◌<◌, ◌^◌, ◌+◌, ◌-◌, ◌++◌, [], ◌∷◌, List, None, IfOk, IfErr, OnOk, Some};
 ghost use Rattle.tw_types.specs.Team.{IsSound, fault_of};

@@ -1,5 +1,5 @@
 -- What an act makes of a process, and what is seen of it then.
-use Rattle.std.proofs.Common.{◌≡◌, refl, sym, ap, subst, ◌∙◌, ℕ, true, List, Option, Some, None, Ok}
+use Rattle.std.proofs.Common.{◌≡◌, refl, sym, ap, subst, ◌∙◌, ℕ, true, false, List, Option, Some, None, Ok}
 use Rattle.std.specs.Option.{option_map}
 use Rattle.tw_num.specs.Clock.{IsNotBefore}
 use Rattle.tw_types.specs.declared.team.Team.{Team}
@@ -10,7 +10,7 @@ use Rattle.tw_types.specs.declared.outputs.Outputs.{Outputs}
 use Rattle.tw_types.specs.declared.outputs.Mode.TheVariants as modes
 use Rattle.tw_types.specs.declared.row.RowAnswer.{RowAnswer}
 use Rattle.tw_types.specs.declared.step.Act.{Act}
-use Rattle.tw_types.specs.declared.step.Act.TheVariants.{First, Again, Crash, Recv, Reference, Look}
+use Rattle.tw_types.specs.declared.step.Act.TheVariants.{First, Again, Crash, Tick, Recv, Send, Reference, Look}
 use Rattle.tw_types.specs.declared.step.Act.TheVariants as acts
 use Rattle.tw_types.specs.Outputs.{nothing}
 use Rattle.tw_types.specs.Process.{Process, started}
@@ -18,7 +18,7 @@ use Rattle.tw_types.specs.Ranges.{DatagramFits}
 use Rattle.tw_types.specs.Spelling.{spelling}
 use Rattle.tw_types.specs.Numbered.{numbered}
 use Rattle.tw_machine.specs.Dispatches.{Dispatch}
-use Rattle.tw_machine.specs.Admissible.{was_sent_to}
+use Rattle.tw_machine.specs.Admissible.{runs_after, was_sent_to}
 use Rattle.tw_machine.specs.Event.{Event, Packet}
 use Rattle.tw_machine.specs.Event as machine
 use Rattle.tw_types.specs.Beliefs.{log_length}
@@ -26,6 +26,7 @@ use Rattle.tw_types.specs.Decisions.{or_none}
 use Rattle.tw_types.specs.Flag.{is_up}
 use Rattle.tw_machine.specs.Standing.{last_decision}
 use Rattle.tw_machine.specs.Step.{step, looked, view_of}
+use Rattle.tw_machine.specs.Rows.{gone}
 use Rattle.tw_machine.specs.World.{Deed, row_answer, happen, receive, deed}
 use Rattle.tw_machine.proofs.Clocks.{reading_again}
 use Rattle.node_core.specs.declared.state.State.{State}
@@ -113,6 +114,25 @@ look_done team who h act sent c out (Some p) is ready gives = let r = rw is at r
   answer = refl;
   out = gives;
 })
+
+-- of a process that crashes nothing runs, and the incarnation that is lost is seen
+pub crash_done : (team : Team) (who h : ℕ) (act : Act) (sent : List Dispatch) (c : State) (lost v : View) (a : RowAnswer) (out : Outputs) (before : Option Process) → runs_after act true ≡ false
+    → IsReady team who h act (Some c) before → ((p : Process) → StandsFor c p → IsNotBefore h p.timing.clock → lost ≡ view_of c.team h p) → v ≡ gone lost.incarnation → a ≡ RowAnswer.Crash → out ≡ nothing
+    → IsDeed team h None a v out before (deed team who h sent act before)
+crash_done team who h First sent c lost v a out before ends ready view is crashed gives = absurd (cc)
+crash_done team who h Again sent c lost v a out before ends ready view is crashed gives = absurd (cc)
+crash_done team who h Tick sent c lost v a out before ends ready view is crashed gives = absurd (cc)
+crash_done team who h (Recv d) sent c lost v a out before ends ready view is crashed gives = absurd (cc)
+crash_done team who h (Send order atom payload) sent c lost v a out before ends ready view is crashed gives = absurd (cc)
+crash_done team who h (Reference lo hi) sent c lost v a out before ends ready view is crashed gives = absurd (cc)
+crash_done team who h Look sent c lost v a out before ends ready view is crashed gives = absurd (cc)
+crash_done team who h Crash sent c lost v a out None ends ready view is crashed gives = absurd (let r = ready.2 in cc)
+crash_done team who h Crash sent c lost v a out (Some p) ends ready view is crashed gives = record {
+  running = tt;
+  answer = crashed;
+  view = is ∙ ap (λ (l : View). gone l.incarnation) (view p ready.0.1 ready.1);
+  out = gives;
+}
 
 -- ---- the look that ends each step
 

@@ -4,3 +4,4 @@ pub mod Drift
 pub mod Histories
 pub mod Worlds
 pub mod Columns
+mod Premises

@@ -1,4 +1,4 @@
-ghost use Rattle.std.specs.Prelude.{◌≡◌, true};
+ghost use Rattle.std.specs.Prelude.{◌≡◌, ◌<◌, ◌^◌, true};
 ghost use Rattle.tw_machine.specs.Grammar.{IsAct};
 ghost use Rattle.tw_machine.specs.Schedule.{is_built};
 
@@ -270,6 +270,24 @@ fn ends(
     )
 }
 
+/// Whether process 0, which knows at its start that team time is not above `hi`, tells this much later on.
+fn tells(alloc: Global, hi: u64, told: Option<Interval>) -> Result<bool, WantOfMemory>
+    requires { hi < 2 ^ 60 }
+{
+    let mut s = Schedule {
+        world: World::new(alloc, DRIFTING)?,
+        row: Row::new(alloc)?,
+    };
+    let later = 1_151_768_583_102_240_157;
+    let out = [sync(0, 1, later, told, None), sync(0, 2, later, told, None)];
+    Ok(
+        s.reads(5, 5, Act::First).is_none()
+            && s.reads(5, 5, Act::Reference { lo: 0, hi }).is_none()
+            && s.reads(later, later, Act::Tick).is_none()
+            && s.row.out.sends.as_slice() == out.as_slice(),
+    )
+}
+
 fn interval(lo: u64, hi: u64) -> Option<Interval> {
     Some(Interval { lo, hi })
 }
@@ -364,6 +382,15 @@ fn each_bound_reaches_the_ends(rt: HostRuntime) -> Result<(), Fail> {
     for (t, h, refused) in far {
         assert!(rt; ends(rt.alloc(), [(0, 0), (0, 0), (0, 0), (t, h)], refused)?);
     }
+    Ok(())
+}
+
+/// An interval is told where it ends below 2^61. This one ends 1152921504606847000 microseconds later than at the start.
+#[test]
+fn intervals_that_are_told(rt: HostRuntime) -> Result<(), Fail> {
+    let last = interval(1_150_617_965_137_103_047, (1 << 61) - 1);
+    assert!(rt; tells(rt.alloc(), 1_152_921_504_606_846_951, last)?);
+    assert!(rt; tells(rt.alloc(), 1_152_921_504_606_846_952, None)?);
     Ok(())
 }
 

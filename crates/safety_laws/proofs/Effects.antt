@@ -1,6 +1,7 @@
 -- Each part of a step is a row of effects, and so is a step.
 use Rattle.std.proofs.Common.{◌≡◌, refl, sym, ap, subst, ◌∙◌, ℕ, ◌<◌, Bool, true, false, cond, not, ◌&&◌, nat_eq, nat_lt, List, [], ◌∷◌, ◌++◌, map, Option, Some, None, Result, Ok, Err, arith}
 use Rattle.std.specs.List.{AllByRecursion}
+use Rattle.std.specs.Option.{option_map}
 use Rattle.std.proofs.lemmas.Bool.Decides.{nat_tests}
 use Rattle.std.proofs.lemmas.List.{map-append, append_assoc, append-nil}
 use Rattle.tw_num.specs.Rate.{Rate, Timely, Late, Unrated}
@@ -15,6 +16,9 @@ use Rattle.tw_types.specs.declared.datagram.Datagram.{Datagram}
 use Rattle.tw_types.specs.declared.message.UpdateId.{UpdateId}
 use Rattle.tw_types.specs.declared.message.Decision.{Decision}
 use Rattle.tw_types.specs.declared.message.Kept.{Kept}
+use Rattle.tw_types.specs.declared.message.Order.{Order}
+use Rattle.tw_types.specs.declared.message.Atom.{Atom}
+use Rattle.tw_types.specs.declared.datagram.Want.{Want}
 use Rattle.tw_types.specs.declared.message.Member.{Member}
 use Rattle.tw_types.specs.declared.step.Step.{Step}
 use Rattle.tw_types.specs.Refusals.{Refusal, first_refusal}
@@ -24,11 +28,11 @@ use Rattle.tw_types.specs.Beliefs.{Belief, Informed, Blank, Log, is_informed, vi
 use Rattle.tw_types.specs.Ballots.{wants, is_over}
 use Rattle.tw_types.specs.Decisions.{or_none, is_older, has_seat}
 use Rattle.tw_types.specs.Elections.{why_begun, own_promise}
-use Rattle.tw_types.specs.Waiting.{payloads_of}
+use Rattle.tw_types.specs.Waiting.{Held, payloads_of, Putting, Filled, Stored, putting, with_payload}
 use Rattle.tw_types.specs.Groups.{NoGroup, group_made, group_making, first_decision, objections, first_objection, next_making}
 use Rattle.tw_types.specs.Turns.{is_turn, next_decision}
 use Rattle.tw_types.specs.Promises.{is_quarantined, is_in_window}
-use Rattle.tw_types.specs.Process.{Process, Purpose, ToTake, ToGroup}
+use Rattle.tw_types.specs.Process.{Process, Purpose, ToTake, ToGroup, Hold}
 use Rattle.tw_machine.specs.Dispatches.{sent_at}
 use Rattle.tw_machine.specs.History.{Promised, promise_item, make_item, promises_on, makes_on}
 use Rattle.tw_machine.specs.History as items
@@ -36,7 +40,9 @@ use Rattle.tw_machine.specs.Run.{Run, Ruled, done, dropped, with_sends}
 use Rattle.tw_machine.specs.Sending.{datagram_to, others, sent_to, sent_to_others}
 use Rattle.tw_machine.specs.Standing.{member_of, last_decision, report_by, promise_by}
 use Rattle.tw_machine.specs.Control.{rate_of, timely_reading, if_timely}
-use Rattle.tw_machine.specs.Entering.{entered, decision_entered, held_for, decision_held}
+use Rattle.tw_machine.specs.Entering.{entered, decision_entered, held_for, decision_held, enter_decision}
+use Rattle.tw_machine.specs.Updating.{is_stale, held_let_go, use_if_whole, update_kept, update_put, received_as, take_update, answer_ask}
+use Rattle.tw_machine.specs.Proposing.{own_update, seq_given, update_sent, propose}
 use Rattle.tw_machine.specs.Taking.{decision_tests, take_decision}
 use Rattle.tw_machine.specs.Electing.{promised, answer_tests, election_answered, answer_election, ballot_dropped, has_spent_ballot, drop_ballot, holds_election, election_begun, begin_election}
 use Rattle.tw_machine.specs.Deciding.{supporting, making_kept, decision_made, has_turn, entries_to_add, turn_taken, take_turn}
@@ -44,9 +50,11 @@ use Rattle.tw_machine.specs.Grouping.{promise_added, take_promise, make_group}
 use Rattle.tw_machine.specs.Beating.{is_due, beat_marked, is_repeated, repeat_decision, ask_again, beat_given, give_beat}
 use Rattle.tw_machine.specs.Rules.{kind_rule, rule}
 use Rattle.tw_machine.specs.Duties.{timed_duties, duties_if_timed, duties}
+use Rattle.tw_machine.specs.Event.{Event}
+use Rattle.tw_machine.specs.Step.{event_rule}
 use Rattle.tw_machine.proofs.Tables.{all_mapped, all_of, equal_numbers}
-use Rattle.tw_machine.proofs.Ends.{by_taking, by_group, by_asking}
-use Rattle.safety_laws.specs.Effects.{Written, State, Here, state_of, NotBelow, Says, IsToldBy, BallotReason, MakeReason, Change, Changes}
+use Rattle.tw_machine.proofs.Ends.{by_entering, by_group, by_asking, by_using, by_kept, by_putting, by_answering, by_proposing, by_event}
+use Rattle.safety_laws.specs.Effects.{Written, State, Here, state_of, NotBelow, Says, IsToldBy, held_decision, Source, Comes, WasHeld, Holding, Stays, Goes, ForTaking, ForGroup, BallotReason, MakeReason, Change, Changes}
 
 -- one item more, at the end of what a step gave, stands first
 pub promise_first : (life : ℕ) (s : Step) (given : Promise) (ps : List Promise) (older : List Promised) → promises_on life s (ps ++ given ∷ []) older ≡ promise_item life s given ∷ promises_on life s ps older
@@ -125,6 +133,7 @@ module _ (here : Here) (before : Written) where
     belief = refl;
     base = refl;
     length = refl;
+    held = Stays refl refl;
     greatest = same_greatest r.process.timing.clock.greatest;
     promises = refl;
     makes = refl;
@@ -150,14 +159,15 @@ module _ (here : Here) (before : Written) where
 
   -- a change of what no law on groups reads
   pub still : (a b : Run) → b.process.identity ≡ a.process.identity → b.process.vote ≡ a.process.vote → b.process.ballot ≡ a.process.ballot → b.process.belief ≡ a.process.belief → b.process.log ≡ a.process.log
-      → NotBelow a.process.timing.clock.greatest b.process.timing.clock.greatest → b.promises ≡ a.promises → b.makings ≡ a.makings → b.out.sends ≡ a.out.sends → Change here (at a) (at b)
-  still a b identity vote ballot belief log greatest promises makings sends = Change.Keep (record {
+      → Holding here (at a) (at b) → NotBelow a.process.timing.clock.greatest b.process.timing.clock.greatest → b.promises ≡ a.promises → b.makings ≡ a.makings → b.out.sends ≡ a.out.sends → Change here (at a) (at b)
+  still a b identity vote ballot belief log held greatest promises makings sends = Change.Keep (record {
     identity = identity;
     vote = vote;
     ballot = ballot;
     belief = belief;
     base = ap (λ (l : Log). l.base) log;
     length = ap log_length log;
+    held = held;
     greatest = greatest;
     promises = ap (λ ps. promises_on here.life here.step ps before.promises) promises;
     makes = rw (identity, makings) refl;
@@ -168,12 +178,18 @@ module _ (here : Here) (before : Written) where
   })
 
   -- a decision is held, and an update asked for
-  held_row : (purpose : Purpose) (d : Decision) (source : ℕ) (id : UpdateId) (r : Run) → IsRead r → Row r (decision_held here.now purpose d source id r)
-  held_row purpose d source id r read =
+  held_row : (purpose : Purpose) (d : Decision) (source : ℕ) (id : UpdateId) (r : Run) → Holding here (at r) (at (record r { process = held_for purpose d source r.process })) → IsRead r → Row r (decision_held here.now purpose d source id r)
+  held_row purpose d source id r holding read =
       let held : Run = record r { process = held_for purpose d source r.process } in
       after r held (decision_held here.now purpose d source id r)
-      (one r held (still r held refl refl refl refl refl (same_greatest r.process.timing.clock.greatest) refl refl refl) read)
+      (one r held (still r held refl refl refl refl refl holding (same_greatest r.process.timing.clock.greatest) refl refl refl) read)
       (one_sent source _ held read tt)
+
+  -- a decision that has a source enters the list, or is held to be taken
+  enter_row : (d : Decision) (r : Run) → Source here (at r) d → IsRead r → Row r (enter_decision here.now d r).run
+  enter_row d r source read = by_entering here.now d r (λ k. Row r k.run)
+      (λ fits whole. one r (decision_entered d r) (Change.Take (record { taken_decision = d; source = source; fits = fits; whole = whole; process = refl; written = refl })) read)
+      (λ id. held_row ToTake d d.maker id r (ForTaking d source refl refl) read) (λ reason e. nothing r read)
 
   -- a promise
 
@@ -301,7 +317,7 @@ module _ (here : Here) (before : Written) where
   group_row t r read reading promised = by_group here.team here.now t r (Row r) (nothing r read)
       (λ ballot d is full e. let new = group_is ballot r.process.log (payloads_of r.process.waiting) (member_of r.process.identity) t d e in
       made_row (group_making ballot d) t r (ballot_dropped r) read reading new.made (new.group ∙ sym (promised ballot is)) (MakeReason.Group ballot is full e refl refl) refl refl)
-      (λ best source id. held_row ToGroup best source id r read)
+      (λ ballot best id is e. held_row ToGroup best ballot.best_from id r (ForGroup ballot best is e refl refl) read)
 
   informed_by : (r : Run) → is_by_informed (report_by r.process 0) ≡ true → is_informed r.process.belief ≡ true
   informed_by r e = go r.process.belief e
@@ -379,7 +395,7 @@ module _ (here : Here) (before : Written) where
 
       go : (due : Bool) → Row r (cond due (beat_given here.team here.now r) r)
       go true =
-          let first : Row r marked = one r marked (still r marked refl refl refl refl refl (same_greatest r.process.timing.clock.greatest) refl refl refl) read in
+          let first : Row r marked = one r marked (still r marked refl refl refl refl refl (Stays refl refl) (same_greatest r.process.timing.clock.greatest) refl refl refl) read in
           let second : Row marked again = ask_row marked read in
           let third : Row again (repeat_decision here.team here.now again) = repeat_row again second.read in
           after r marked (beat_given here.team here.now r) first
@@ -398,9 +414,7 @@ module _ (here : Here) (before : Written) where
   -- the rules
 
   decision_row : (head : Head) (d : Decision) (r : Run) → IsRead r → here.mail ≡ Some (record { head = head; body = bodies.Decision d }) → Row r (take_decision here.now d r).run
-  decision_row head d r read mail = by_taking here.now d r (λ k. Row r k.run)
-      (λ free fits whole. one r (decision_entered d r) (Change.Take (record { taken_decision = d; head = head; received = mail; newer = newer free; seat = seat free; promised = group free; fits = fits; whole = whole; process = refl; written = refl })) read)
-      (λ id. held_row ToTake d d.maker id r read) (λ reason e. nothing r read) (λ reason e. nothing r read)
+  decision_row head d r read mail = go (first_refusal (decision_tests r.process d)) refl
     where
       newer : first_refusal (decision_tests r.process d) ≡ None → is_older (or_none (view_decision r.process.belief)).group (or_none (view_decision r.process.belief)).turn d.group d.turn ≡ true
       newer e = not_false _ (none_present (decision_tests r.process d) e).0
@@ -416,6 +430,53 @@ module _ (here : Here) (before : Written) where
           let barred : cond (is_informed r.process.belief) (not (nat_eq d.group r.process.vote.promised)) (nat_lt d.group r.process.vote.promised) ≡ false = (none_present (decision_tests r.process d) e).1.1.0 in
           let same : nat_eq d.group r.process.vote.promised ≡ true = not_false _ (ap (λ b. cond b (not (nat_eq d.group r.process.vote.promised)) (nat_lt d.group r.process.vote.promised)) (sym (informed e)) ∙ barred) in
           equal_numbers d.group r.process.vote.promised same
+
+      go : (o : Option Reason) → first_refusal (decision_tests r.process d) ≡ o → Row r (elim o as (λ o. Ruled) [ None ↦ enter_decision here.now d r | Some reason ↦ dropped reason r ]).run
+      go None free = enter_row d r (Comes head mail (record { newer = newer free; seat = seat free; promised = group free })) read
+      go (Some reason) e = nothing r read
+
+  -- an update that is put, and what a filled hole sets off
+
+  waits_row : (putting : Putting) (k : Kept) (r : Run) → held_decision (update_kept putting k r).process ≡ held_decision r.process → IsRead r → Row r (update_kept putting k r)
+  waits_row putting k r same read = one r (update_kept putting k r) (still r (update_kept putting k r) refl refl refl refl refl (Stays same refl) (same_greatest r.process.timing.clock.greatest) refl refl refl) read
+
+  use_row : (r : Run) → IsRead r → Row r (use_if_whole here.now r)
+  use_row r read = by_using here.now r (Row r) (nothing r read)
+      (one r (held_let_go r) (still r (held_let_go r) refl refl refl refl refl (Goes refl) (same_greatest r.process.timing.clock.greatest) refl refl refl) read)
+      (λ h hold is held purpose fresh. enter_row h.decision r (WasHeld hold (ap (option_map (λ (z : Held). z.decision)) is) held purpose (unpromised h.decision hold fresh)) read)
+    where
+      unpromised : (d : Decision) (hold : Hold) → is_stale hold d r.process ≡ false → hold.promised ≡ r.process.vote.promised
+      unpromised d hold fresh = grind (arith, nat_tests)
+
+  fill_row : (k : Kept) (r : Run) → IsRead r → Row r (use_if_whole here.now (update_kept Filled k r))
+  fill_row k r read = after r (update_kept Filled k r) (use_if_whole here.now (update_kept Filled k r)) (waits_row Filled k r (same r.process.waiting.held) read) (use_row (update_kept Filled k r) read)
+    where
+      same : (o : Option Held) → option_map (λ (z : Held). z.decision) (option_map (with_payload k) o) ≡ option_map (λ (z : Held). z.decision) o
+      same None = refl
+      same (Some h) = refl
+
+  put_row : (putting : Putting) (k : Kept) (r : Run) → IsRead r → Row r (update_put here.now putting k r)
+  put_row putting k r read = by_kept here.now putting k r (Row r) (nothing r read) (waits_row Stored k r refl read) (fill_row k r read)
+
+  update_row : (k : Kept) (r : Run) → IsRead r → Row r (take_update here.now k r).run
+  update_row k r read = by_putting here.now (received_as r.process k) k r (λ z. Row r z.run) (fill_row k r read) (waits_row Stored k r refl read) (λ reason other. nothing r read)
+
+  question_row : (from : ℕ) (want : Want) (r : Run) → IsRead r → Row r (answer_ask here.now from want r).run
+  question_row from want r read = by_answering here.now from want r (λ z. Row r z.run) (λ k. one_sent from _ r read tt) (nothing r read)
+
+  -- a send
+
+  sent_row : (k : Kept) (r : Run) → IsRead r → Row r (update_sent here.team here.now k r)
+  sent_row k r read =
+      let given : Run = seq_given k.entry.id.seq r in
+      let put : Run = update_put here.now (putting (view_decision r.process.belief) k r.process.waiting) k given in
+      let first : Row r given = one r given (still r given refl refl refl refl refl (Stays refl refl) (same_greatest r.process.timing.clock.greatest) refl refl refl) read in
+      let second : Row given put = put_row (putting (view_decision r.process.belief) k r.process.waiting) k given read in
+      after r put (update_sent here.team here.now k r) (after r given put first second) (others_sent here.team.n (bodies.Update k) put second.read tt)
+
+  propose_row : (order : Order) (atom : Atom) (payload : List ℕ) (r : Run) → IsRead r → Row r (propose here.team here.now order atom payload r).run
+  propose_row order atom payload r read = by_proposing here.team here.now order atom payload r (λ z. Row r z.run)
+      (λ free. sent_row (own_update here.now order atom payload r.process) r read) (λ why e. nothing r read)
 
   answer_row : (from number : ℕ) (why : Why) (t : ℕ) (r : Run) → IsRead r → here.now.reading ≡ Some t → Row r (answer_election here.team here.now from number why t r).run
   answer_row from number why t r read reading = go (first_refusal (answer_tests here.team here.now from number why t r.process)) refl
@@ -455,16 +516,20 @@ module _ (here : Here) (before : Written) where
 
   kind_row : (head : Head) (body : Body) (r : Run) → IsRead r → here.mail ≡ Some (record { head = head; body = body }) → Row r (kind_rule here.team here.now head body r).run
   unfolding kind_rule
-  kind_row head (bodies.Update kept) r read mail = nothing r read
+  kind_row head (bodies.Update kept) r read mail = update_row kept r read
   kind_row head (bodies.Decision d) r read mail = timely_row head (λ t. take_decision here.now d) r read (λ t e. decision_row head d r read mail)
   kind_row head (bodies.NoDecision number group turn skip reports best) r read mail = nothing r read
   kind_row head (bodies.Election number why) r read mail = timely_row head (answer_election here.team here.now head.from number why) r read (λ t e. answer_row head.from number why t r read e)
   kind_row head (bodies.Promise number report d) r read mail = timely_row head (λ t. take_promise (record { number = number; report = report; decision = d })) r read (λ t e. ballot_row head (record { number = number; report = report; decision = d }) r read mail)
-  kind_row head (bodies.Ask want) r read mail = nothing r read
+  kind_row head (bodies.Ask want) r read mail = question_row head.from want r read
   kind_row head (bodies.State group position total offset bytes) r read mail = nothing r read
   kind_row head (bodies.Sync ready) r read mail = nothing r read
 
-  pub rule_row : (packet : Result (Option Datagram) Reason) (r : Run) → IsRead r → ((d : Datagram) → packet ≡ Ok (Some d) → here.mail ≡ Some d) → Row r (rule here.team here.now packet r).run
+  rule_row : (packet : Result (Option Datagram) Reason) (r : Run) → IsRead r → ((d : Datagram) → packet ≡ Ok (Some d) → here.mail ≡ Some d) → Row r (rule here.team here.now packet r).run
   rule_row (Err reason) r read mail = nothing r read
   rule_row (Ok None) r read mail = nothing r read
   rule_row (Ok (Some d)) r read mail = kind_row d.head d.body r read (mail d refl)
+
+  -- the rule of an event
+  pub own_row : (e : Event) (packet : Result (Option Datagram) Reason) (r : Run) → IsRead r → ((d : Datagram) → packet ≡ Ok (Some d) → here.mail ≡ Some d) → Row r (event_rule here.team here.now e packet r).run
+  own_row e packet r read mail = by_event here.team here.now e packet r (λ z. Row r z.run) (rule_row packet r read mail) (λ order atom payload. propose_row order atom payload r read)

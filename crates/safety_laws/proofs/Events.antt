@@ -17,11 +17,10 @@ use Rattle.tw_machine.specs.Run.{run_of}
 use Rattle.tw_machine.specs.Packet.{is_taken, is_stranger, admitted}
 use Rattle.tw_machine.specs.Hearing.{noted, is_refused, unless_dropped, learn_packet, learn}
 use Rattle.tw_machine.specs.Hearing as hearing
-use Rattle.tw_machine.specs.Rules.{rule}
 use Rattle.tw_machine.specs.Duties.{duties}
-use Rattle.tw_machine.specs.Step.{learnt_by, moment_of, read_by, ruled_by, has_duties, ended_by, looked}
-use Rattle.safety_laws.specs.Effects.{Written, Here, state_of, NotBelow, Changes}
-use Rattle.safety_laws.proofs.Effects.{Row, after, still, same_greatest, rule_row, duties_row}
+use Rattle.tw_machine.specs.Step.{learnt_by, moment_of, read_by, event_rule, ruled_by, has_duties, ended_by, looked}
+use Rattle.safety_laws.specs.Effects.{Written, Here, state_of, NotBelow, Stays, Changes}
+use Rattle.safety_laws.proofs.Effects.{Row, after, still, same_greatest, own_row, duties_row}
 
 -- the datagram that an event brings, where it isn't dropped before its kind's rule
 abbrev pub heard : Result (Option Datagram) Reason → Option Datagram
@@ -63,6 +62,7 @@ mail_is team h (Event.Packet r) p d is =
     let k = admitted_is team.n p.identity.who r d (packet_is team h (admitted team.n p.identity.who r) p.timing d is) in
     record { packet = ap Event.Packet k.0; from = k.1 }
 mail_is team h (Event.Reference lo hi) p d is = absurd (refused_has_no_mail (is_refused team.ppm h (Some (record { lo = lo; hi = hi })) p.timing) d is)
+mail_is team h (Event.Send order atom payload) p d is = absurd (cc)
 
 -- the greatest reading never falls
 
@@ -82,6 +82,7 @@ learnt_greatest : (team : Team) (me h : ℕ) (e : Event) (t : Timing) → (learn
 learnt_greatest team me h Event.Tick t = refl
 learnt_greatest team me h (Event.Packet r) t = packet_greatest team h (admitted team.n me r) t
 learnt_greatest team me h (Event.Reference lo hi) t = given_greatest team.ppm h (Some (record { lo = lo; hi = hi })) t
+learnt_greatest team me h (Event.Send order atom payload) t = refl
 
 at_least_greatest : (o : Option ℕ) (t : ℕ) → NotBelow o (Some (at_least o t))
 at_least_greatest None t = tt
@@ -112,14 +113,14 @@ event_row here before e p now mail = by_duties (has_duties e)
 
     first : Row here before (run_of p) (read_by here.team here.step.h e p)
     first = record {
-      changes = Changes.Then Changes.Done (still here before (run_of p) (read_by here.team here.step.h e p) refl refl refl refl refl learnt refl refl refl);
+      changes = Changes.Then Changes.Done (still here before (run_of p) (read_by here.team here.step.h e p) refl refl refl refl refl (Stays refl refl) learnt refl refl refl);
       read = λ t is. read_is_greatest here.team.ppm here.team.eps here.step.h t (learnt_by here.team here.step.h e p).timing.clock (ap (λ (m : Moment). m.reading) (sym now) ∙ is);
     }
 
     ruled : Row here before (run_of p) (ruled_by here.team here.step.h e p).run
     ruled = after here before (run_of p) (read_by here.team here.step.h e p) (ruled_by here.team here.step.h e p).run first
-        (subst (λ (m : Moment). Row here before (read_by here.team here.step.h e p) (rule here.team m (learnt_by here.team here.step.h e p).packet (read_by here.team here.step.h e p)).run) now
-        (rule_row here before (learnt_by here.team here.step.h e p).packet (read_by here.team here.step.h e p) first.read (λ d is. mail ∙ ap heard is)))
+        (subst (λ (m : Moment). Row here before (read_by here.team here.step.h e p) (event_rule here.team m e (learnt_by here.team here.step.h e p).packet (read_by here.team here.step.h e p)).run) now
+        (own_row here before e (learnt_by here.team here.step.h e p).packet (read_by here.team here.step.h e p) first.read (λ d is. mail ∙ ap heard is)))
 
     by_duties : (b : Bool) → Row here before (run_of p) (cond b (duties here.team (moment_of here.team here.step.h e p) (ruled_by here.team here.step.h e p).run) (ruled_by here.team here.step.h e p).run)
     by_duties true = after here before (run_of p) (ruled_by here.team here.step.h e p).run _ ruled
@@ -129,4 +130,4 @@ event_row here before e p now mail = by_duties (has_duties e)
 -- and so is a look
 pub look_row : (here : Here) (before : Written) (p : Process) → Changes here (state_of here before (run_of p)) (state_of here before (run_of (looked here.team here.step.h p)))
 look_row here before p = Changes.Then Changes.Done
-    (still here before (run_of p) (run_of (looked here.team here.step.h p)) refl refl refl refl refl (read_grows here.team.ppm here.team.eps here.step.h p.timing.clock) refl refl refl)
+    (still here before (run_of p) (run_of (looked here.team here.step.h p)) refl refl refl refl refl (Stays refl refl) (read_grows here.team.ppm here.team.eps here.step.h p.timing.clock) refl refl refl)

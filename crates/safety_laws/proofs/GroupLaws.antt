@@ -4,7 +4,7 @@ use Rattle.tw_types.specs.declared.team.Team.{Team}
 use Rattle.tw_types.specs.Team.{IsSound}
 use Rattle.tw_types.specs.declared.step.Step.{Step}
 use Rattle.tw_machine.specs.History.{history}
-use Rattle.tw_machine.specs.World.{IsReplayable}
+use Rattle.tw_machine.specs.World.{Admissible}
 use Rattle.safety_laws.specs.Effects.{written}
 use Rattle.safety_laws.specs.Groups.{of_groups}
 use Rattle.safety_laws.specs.Laws.{Law, Both}
@@ -71,11 +71,11 @@ pub groups_rules : (team : Team) → LawRules team (of_groups team)
 groups_rules team = renamed team (with_all team) (of_groups team) (same_law team) (all_too team)
 
 -- in every schedule
-pub grouped_well : (team : Team) (past : List Step) → IsSound team → IsReplayable team past → Kept team (of_groups team) past
+pub grouped_well : (team : Team) (past : List Step) → IsSound team → Admissible team past → Kept team (of_groups team) past
 grouped_well team past sound ok = law_holds team (of_groups team) (groups_rules team) past sound ok
 
 -- what the laws on quorums and leases rest on
-pub agreed : (team : Team) (past : List Step) → IsSound team → IsReplayable team past → Agree team (history team past).promises (history team past).makes
+pub agreed : (team : Team) (past : List Step) → IsSound team → Admissible team past → Agree team (history team past).promises (history team past).makes
 agreed team past sound ok =
     let k = (grouped_well team past sound ok).history in
     let names = own_names past (written team past) k.promises.names in

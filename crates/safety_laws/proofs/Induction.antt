@@ -16,24 +16,20 @@ use Rattle.tw_types.specs.declared.outputs.Mode.{Mode}
 use Rattle.tw_types.specs.declared.outputs.Mode.TheVariants as modes
 use Rattle.tw_num.specs.Interval.{Holds}
 use Rattle.tw_types.specs.Process.{Process, started}
-use Rattle.tw_machine.specs.Schedule.{is_built}
 use Rattle.tw_machine.specs.Admissible.{Condition, conditions, first_unmet, cause_of, keeps_drift, is_start, is_running, runs_after, may_start, was_sent_to, may_receive, holds_time, each_own}
 use Rattle.tw_machine.specs.Event.{Event}
 use Rattle.tw_machine.specs.Step.{step, looked}
 use Rattle.tw_machine.specs.Dispatches.{Dispatch}
-use Rattle.tw_machine.specs.World.{Deed, silent, happen, receive, deed, deed_in, world, IsReplayable}
+use Rattle.tw_machine.specs.World.{Deed, silent, happen, receive, deed, deed_in, world, Admissible}
 use Rattle.safety_laws.specs.Clocks.{IsReceipt}
 use Rattle.tw_machine.proofs.Tables.{equal_numbers, same_number}
 
--- a schedule that a replay takes, without its last step, and that step
-pub earlier : (team : Team) (past : List Step) (s : Step) → IsReplayable team (s ∷ past) → IsReplayable team past
-earlier team past s ok = (ok.0.0, ok.1.1)
+-- an admissible schedule without its last step, and that step
+pub earlier : (team : Team) (past : List Step) (s : Step) → Admissible team (s ∷ past) → Admissible team past
+earlier team past s ok = ok.0
 
-pub follows : (team : Team) (past : List Step) (s : Step) → IsReplayable team (s ∷ past) → cause_of team (world team past).sent past s ≡ None
-follows team past s ok = ok.0.1
-
-is_one : (team : Team) (past : List Step) (s : Step) → IsReplayable team (s ∷ past) → is_built s.act ≡ true
-is_one team past s ok = ok.1.0
+pub follows : (team : Team) (past : List Step) (s : Step) → Admissible team (s ∷ past) → cause_of team (world team past).sent past s ≡ None
+follows team past s ok = ok.1
 
 -- what a step that may follow meets
 
@@ -113,6 +109,7 @@ Brings team past s Event.Tick = s.act ≡ Tick
 Brings team past s (Event.Packet (Err fault)) = ⊥
 Brings team past s (Event.Packet (Ok d)) = Receives team past s d
 Brings team past s (Event.Reference lo hi) = (s.act ≡ Reference lo hi) × Holds (record { lo = lo; hi = hi }) s.t
+Brings team past s (Event.Send order atom payload) = s.act ≡ Send order atom (record { items = payload })
 
 -- A process starts, stops, is looked at, or an event happens to it.
 pub data Turn (team : Team) (past : List Step) (s : Step) (d : Deed) : Type 0 where
@@ -145,26 +142,27 @@ receipt team past s number p None runs act e test = absurd (cc)
 receipt team past s number p (Some d) runs act e test =
     Turn.Happens (Event.Packet (Ok d.datagram)) p runs (record { dispatch = d; receipt = record { number = number; received = act; sent = e }; to = equal_numbers d.to s.who test; is = refl }) refl
 
-turn_of : (team : Team) (past : List Step) (s : Step) (act : Act) (o : Option Process) → s.act ≡ act → (world team past).process_of s.who ≡ o → (is_start act || is_some o) ≡ true → may_receive (world team past).sent s act ≡ true → holds_time s act ≡ true → is_built act ≡ true → Turn team past s (deed team s.who s.h (world team past).sent act o)
-turn_of team past s First o same own runs got holds built = Turn.Starts modes.First same refl
-turn_of team past s Again o same own runs got holds built = Turn.Starts modes.Again same refl
-turn_of team past s Crash o same own runs got holds built = Turn.Stops same refl
-turn_of team past s Tick None same own runs got holds built = absurd (cc)
-turn_of team past s Tick (Some p) same own runs got holds built = Turn.Happens Event.Tick p own same refl
-turn_of team past s (Recv d) None same own runs got holds built = absurd (cc)
-turn_of team past s (Recv d) (Some p) same own runs got holds built = receipt team past s d p (numbered d (world team past).sent) own same refl got
-turn_of team past s (Send order atom payload) o same own runs got holds built = absurd (cc)
-turn_of team past s (Reference lo hi) None same own runs got holds built = absurd (cc)
-turn_of team past s (Reference lo hi) (Some p) same own runs got holds built =
+turn_of : (team : Team) (past : List Step) (s : Step) (act : Act) (o : Option Process) → s.act ≡ act → (world team past).process_of s.who ≡ o → (is_start act || is_some o) ≡ true → may_receive (world team past).sent s act ≡ true → holds_time s act ≡ true → Turn team past s (deed team s.who s.h (world team past).sent act o)
+turn_of team past s First o same own runs got holds = Turn.Starts modes.First same refl
+turn_of team past s Again o same own runs got holds = Turn.Starts modes.Again same refl
+turn_of team past s Crash o same own runs got holds = Turn.Stops same refl
+turn_of team past s Tick None same own runs got holds = absurd (cc)
+turn_of team past s Tick (Some p) same own runs got holds = Turn.Happens Event.Tick p own same refl
+turn_of team past s (Recv d) None same own runs got holds = absurd (cc)
+turn_of team past s (Recv d) (Some p) same own runs got holds = receipt team past s d p (numbered d (world team past).sent) own same refl got
+turn_of team past s (Send order atom payload) None same own runs got holds = absurd (cc)
+turn_of team past s (Send order atom payload) (Some p) same own runs got holds = Turn.Happens (Event.Send order atom payload.items) p own same refl
+turn_of team past s (Reference lo hi) None same own runs got holds = absurd (cc)
+turn_of team past s (Reference lo hi) (Some p) same own runs got holds =
     Turn.Happens (Event.Reference lo hi) p own (same, record { from = grind (arith, nat_tests); to = grind (arith, nat_tests) }) refl
-turn_of team past s Look None same own runs got holds built = absurd (cc)
-turn_of team past s Look (Some p) same own runs got holds built = Turn.Looks p own same refl
+turn_of team past s Look None same own runs got holds = absurd (cc)
+turn_of team past s Look (Some p) same own runs got holds = Turn.Looks p own same refl
 
-pub turn : (team : Team) (past : List Step) (s : Step) → IsReplayable team (s ∷ past) → Turn team past s (deed_in team (world team past) s)
+pub turn : (team : Team) (past : List Step) (s : Step) → Admissible team (s ∷ past) → Turn team past s (deed_in team (world team past) s)
 turn team past s ok =
     let met = meets team past s (follows team past s ok) in
     let runs : (is_start s.act || is_some ((world team past).process_of s.who)) ≡ true = ap (λ b. is_start s.act || b) (runs_in_world team past s.who) ∙ met.runs in
-    turn_of team past s s.act ((world team past).process_of s.who) refl refl runs met.datagram met.reference (is_one team past s ok)
+    turn_of team past s s.act ((world team past).process_of s.who) refl refl runs met.datagram met.reference
 
 -- An invariant has a part about what happened, and one about each process that runs.
 pub record Invariant (team : Team) (H : List Step → Type 0) (Q : List Step → ℕ → Process → Type 0) (past : List Step) : Type 0 where
@@ -175,15 +173,15 @@ pub record Invariant (team : Team) (H : List Step → Type 0) (Q : List Step →
 -- the others keep theirs. At each step the laws that were shown before may be cited for the past, and for the past with the step.
 pub record Rules (team : Team) (H : List Step → Type 0) (Q : List Step → ℕ → Process → Type 0) : Type 0 where
   pub nothing : H []
-  pub starts : (past : List Step) (s : Step) (mode : Mode) → IsReplayable team (s ∷ past) → Invariant team H Q past → s.act ≡ start_by mode →
+  pub starts : (past : List Step) (s : Step) (mode : Mode) → Admissible team (s ∷ past) → Invariant team H Q past → s.act ≡ start_by mode →
       deed_in team (world team past) s ≡ silent (Some (started s.who mode s.h)) RowAnswer.Start → H (s ∷ past) × Q (s ∷ past) s.who (started s.who mode s.h)
-  pub stops : (past : List Step) (s : Step) → IsReplayable team (s ∷ past) → Invariant team H Q past → s.act ≡ Crash →
+  pub stops : (past : List Step) (s : Step) → Admissible team (s ∷ past) → Invariant team H Q past → s.act ≡ Crash →
       deed_in team (world team past) s ≡ silent None RowAnswer.Crash → H (s ∷ past)
-  pub looks : (past : List Step) (s : Step) (p : Process) → IsReplayable team (s ∷ past) → Invariant team H Q past → (world team past).process_of s.who ≡ Some p → s.act ≡ Look →
+  pub looks : (past : List Step) (s : Step) (p : Process) → Admissible team (s ∷ past) → Invariant team H Q past → (world team past).process_of s.who ≡ Some p → s.act ≡ Look →
       deed_in team (world team past) s ≡ silent (Some (looked team s.h p)) RowAnswer.Look → H (s ∷ past) × Q (s ∷ past) s.who (looked team s.h p)
-  pub happens : (past : List Step) (s : Step) (e : Event) (p : Process) → IsReplayable team (s ∷ past) → Invariant team H Q past → (world team past).process_of s.who ≡ Some p → Brings team past s e →
+  pub happens : (past : List Step) (s : Step) (e : Event) (p : Process) → Admissible team (s ∷ past) → Invariant team H Q past → (world team past).process_of s.who ≡ Some p → Brings team past s e →
       deed_in team (world team past) s ≡ happen team s.h e p → H (s ∷ past) × Q (s ∷ past) s.who (step team s.h e p).process
-  pub others : (past : List Step) (s : Step) → IsReplayable team (s ∷ past) → Invariant team H Q past → H (s ∷ past) →
+  pub others : (past : List Step) (s : Step) → Admissible team (s ∷ past) → Invariant team H Q past → H (s ∷ past) →
       (who : ℕ) (p : Process) → s.who ≢ who → (world team past).process_of who ≡ Some p → Q (s ∷ past) who p
 
 -- both parts after a turn, for the process of the step alone
@@ -194,7 +192,7 @@ record Acted (H : List Step → Type 0) (Q : List Step → ℕ → Process → T
 only : (P : Process → Type 0) (o : Option Process) (p q : Process) → P p → o ≡ Some p → o ≡ Some q → P q
 only P o p q holds e f = subst P (same_Some p q (sym e ∙ f)) holds
 
-acted : (team : Team) (H : List Step → Type 0) (Q : List Step → ℕ → Process → Type 0) (past : List Step) (s : Step) → Rules team H Q → IsReplayable team (s ∷ past) → Invariant team H Q past → Turn team past s (deed_in team (world team past) s) → Acted H Q past s (deed_in team (world team past) s)
+acted : (team : Team) (H : List Step → Type 0) (Q : List Step → ℕ → Process → Type 0) (past : List Step) (s : Step) → Rules team H Q → Admissible team (s ∷ past) → Invariant team H Q past → Turn team past s (deed_in team (world team past) s) → Acted H Q past s (deed_in team (world team past) s)
 acted team H Q past s rules ok before (Turn.Starts mode act comes) =
     let both = rules.starts past s mode ok before act comes in
     record { history = both.0; own = λ q e. only (Q (s ∷ past) s.who) (deed_in team (world team past) s).process (started s.who mode s.h) q both.1 (ap (λ (d : Deed). d.process) comes) e }
@@ -207,7 +205,7 @@ acted team H Q past s rules ok before (Turn.Happens event p runs brings comes) =
     let both = rules.happens past s event p ok before runs brings comes in
     record { history = both.0; own = λ q e. only (Q (s ∷ past) s.who) (deed_in team (world team past) s).process (step team s.h event p).process q both.1 (ap (λ (d : Deed). d.process) comes) e }
 
-advanced : (team : Team) (H : List Step → Type 0) (Q : List Step → ℕ → Process → Type 0) (past : List Step) (s : Step) → Rules team H Q → IsReplayable team (s ∷ past) → Invariant team H Q past → Invariant team H Q (s ∷ past)
+advanced : (team : Team) (H : List Step → Type 0) (Q : List Step → ℕ → Process → Type 0) (past : List Step) (s : Step) → Rules team H Q → Admissible team (s ∷ past) → Invariant team H Q past → Invariant team H Q (s ∷ past)
 advanced team H Q past s rules ok before = record { history = own.history; running = λ who p. go who p (nat_eq s.who who) refl }
   where
     own : Acted H Q past s (deed_in team (world team past) s)
@@ -217,7 +215,7 @@ advanced team H Q past s rules ok before = record { history = own.history; runni
     go who p true e runs = subst (λ i. Q (s ∷ past) i p) (equal_numbers s.who who e) (own.own p runs)
     go who p false e runs = rules.others past s ok before own.history who p (λ same. let t : nat_eq s.who who ≡ true = rw same (same_number who) in cc) runs
 
--- A law's parts hold of every schedule that a replay takes.
-pub holds : (team : Team) (H : List Step → Type 0) (Q : List Step → ℕ → Process → Type 0) → Rules team H Q → (past : List Step) → IsReplayable team past → Invariant team H Q past
+-- A law's parts hold of every admissible schedule.
+pub holds : (team : Team) (H : List Step → Type 0) (Q : List Step → ℕ → Process → Type 0) → Rules team H Q → (past : List Step) → Admissible team past → Invariant team H Q past
 holds team H Q rules [] ok = record { history = rules.nothing; running = λ who p e. absurd (cc) }
 holds team H Q rules (s ∷ past) ok = advanced team H Q past s rules ok (holds team H Q rules past (earlier team past s ok))

@@ -12,6 +12,7 @@ pub mod Events
 pub mod Stack
 pub mod Lists
 pub mod Grown
+pub mod Held
 pub mod Names
 pub mod NotAhead
 pub mod Waits

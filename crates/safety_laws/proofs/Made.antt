@@ -30,9 +30,10 @@ use Rattle.tw_machine.specs.History.{Promised, life, promise_item, make_item}
 use Rattle.tw_machine.specs.History as items
 use Rattle.tw_machine.specs.Standing.{member_of, last_decision, report_by}
 use Rattle.tw_machine.specs.Deciding.{entries_to_add}
+use Rattle.tw_machine.specs.Entering.{entered}
 use Rattle.tw_machine.specs.World.{world}
 use Rattle.tw_machine.proofs.Tables.{all_joined, all_mapped, all_push}
-use Rattle.safety_laws.specs.Effects.{Written, State, Here, Says, IsToldBy, Promises, BallotReason, Begins, Adds, Drops, MakeReason, Next, Group, Makes, Change}
+use Rattle.safety_laws.specs.Effects.{Written, State, Here, Says, IsToldBy, held_decision, Source, Comes, WasHeld, Holding, Stays, Goes, ForTaking, ForGroup, Promises, BallotReason, Begins, Adds, Drops, MakeReason, Next, Group, Makes, Change}
 use Rattle.safety_laws.specs.Full.{is_full}
 use Rattle.safety_laws.specs.Laws.{Holds, In}
 use Rattle.safety_laws.specs.Made.{WasMade, WasMadeIfAny, WasReported, TellsLast, TellsDecision, best_of, carried, Follows, ComesFrom, Arises, AsFirst, AsNext, IsUnderPromise, HasSeat, BallotHolds, IsBest, OfMaker, StartsAfter, made}
@@ -42,6 +43,7 @@ use Rattle.safety_laws.specs.Promises.{of_promises}
 use Rattle.safety_laws.specs.Windows.{IsInWindow}
 use Rattle.safety_laws.proofs.Ballots.{best_pushed, best_first, in_pushed, still_distinct, greater_is}
 use Rattle.safety_laws.proofs.FirstDecisions.{IsFirstOf, first_of_ballot, are_distinct, were_distinct}
+use Rattle.safety_laws.proofs.Held.{may_take, HeldBelow, Left, Above, held_after}
 use Rattle.safety_laws.proofs.Lists.{of_each, each_weaker}
 use Rattle.safety_laws.proofs.MadeLists.{More, more_same, more_by, if_any_more, tells_more, arise_more, under_more, ballot_more, maker_more, seat_same, seat_other_promise, seat_other_make, last_made, own_group}
 use Rattle.safety_laws.proofs.NextDecisions.{seat_due, next_seat, after_in, in_changed, next_length, appended_length, same_supported, seat_stays}
@@ -75,6 +77,24 @@ module _ (team : Team) (past : List Step) (s : Step) (here : Here) (x y : State)
         subst (λ (t : Team). head.from < t.n) at.same_team got.4,
       )
 
+  -- a decision that is taken was made, and so was one that is held from then on, and one that stays held
+  pub source_made : (d : Decision) → Source here x d → WasMade x.written.makes d
+  source_made d (Comes head mail may) = carried_by_mail (record { head = head; body = bodies.Decision d }) mail
+  source_made d (WasHeld hold is held purpose promised) = subst (WasMadeIfAny x.written.makes) is k.own.keeps.held
+
+  held_kept : Holding here x y → WasMadeIfAny x.written.makes (held_decision y.process)
+  held_kept (Stays is hold) = rw is k.own.keeps.held
+  held_kept (Goes none) = rw none tt
+  held_kept (ForTaking d source is hold) = rw is (source_made d source)
+  held_kept (ForGroup ballot best is told held hold) = rw held (subst (WasMadeIfAny x.written.makes) (ap best_of is ∙ told) k.own.keeps.best)
+
+  entered_made : (d : Decision) → WasMadeIfAny x.written.makes (held_decision (entered d x.process))
+  entered_made d = go (held_after d x.process)
+    where
+      go : HeldBelow d x.process (held_decision (entered d x.process)) (entered d x.process).hold → WasMadeIfAny x.written.makes (held_decision (entered d x.process))
+      go (Left none) = rw none tt
+      go (Above h is stays hold newer) = rw stays (subst (WasMadeIfAny x.written.makes) is k.own.keeps.held)
+
   -- ---- what is sent
 
   told_made : (body : Body) → y.written.promises ≡ x.written.promises → y.written.makes ≡ x.written.makes → y.process.belief ≡ x.process.belief → Says here y body → WasMadeIfAny y.written.makes (carried body)
@@ -91,7 +111,7 @@ module _ (team : Team) (past : List Step) (s : Step) (here : Here) (x y : State)
           go : (b : Bool) → is_by_informed report ≡ b → WasMade x.written.makes d
           go true e = let t : TellsLast x.written.makes (promise_item here.life here.step (record { number = number; report = report; decision = decision })) (Some d) = subst (TellsLast x.written.makes (promise_item here.life here.step (record { number = number; report = report; decision = decision }))) is (tells.informed e) in t.0
           go false e = absurd (let none : Some d ≡ None = sym is ∙ tells.ready e in cc)
-  told_made (bodies.Update kept) promises makes belief says = absurd says
+  told_made (bodies.Update kept) promises makes belief says = tt
   told_made (bodies.NoDecision number group turn skip reports best) promises makes belief says = absurd says
   told_made (bodies.Election number why) promises makes belief says = tt
   told_made (bodies.Ask want) promises makes belief says = tt
@@ -271,9 +291,9 @@ module _ (team : Team) (past : List Step) (s : Step) (here : Here) (x y : State)
   same_sent makes sent = rw sent (subst (λ ms. AllByRecursion (λ (z : Dispatch). WasMadeIfAny ms (carried z.datagram.body)) x.written.sent) (sym makes) k.history.carried_made)
 
   -- the process, where it keeps its belief, its ballot and its name
-  same_maker : y.written.promises ≡ x.written.promises → y.written.makes ≡ x.written.makes → y.process.identity ≡ x.process.identity → y.process.belief ≡ x.process.belief → y.process.ballot ≡ x.process.ballot → OfMaker team steps y.written s.who y.process
-  same_maker promises makes identity belief ballot = record {
-    keeps = record { view = rw (makes, belief) k.own.keeps.view; best = rw (makes, ballot) k.own.keeps.best };
+  same_maker : y.written.promises ≡ x.written.promises → y.written.makes ≡ x.written.makes → y.process.identity ≡ x.process.identity → y.process.belief ≡ x.process.belief → y.process.ballot ≡ x.process.ballot → WasMadeIfAny x.written.makes (held_decision y.process) → OfMaker team steps y.written s.who y.process
+  same_maker promises makes identity belief ballot held = record {
+    keeps = record { view = rw (makes, belief) k.own.keeps.view; best = rw (makes, ballot) k.own.keeps.best; held = rw makes held };
     seat = λ informed. same_seat (last_decision y.process) (subst (HasSeat steps x.written s.who x.process) (ap last_of (sym belief)) (k.own.seat (ap is_informed (sym belief) ∙ informed)));
     ballot = λ b is. same_ballot b (k.own.ballot b (sym ballot ∙ is));
   }
@@ -383,18 +403,18 @@ module _ (team : Team) (past : List Step) (s : Step) (here : Here) (x y : State)
       (subst (λ ms. AllByRecursion (λ (z : Dispatch). WasMadeIfAny ms (carried z.datagram.body)) x.written.sent) (sym c.makes) k.history.carried_made)
       (all_mapped (λ (z : Dispatch). WasMadeIfAny y.written.makes (carried z.datagram.body)) (sent_at here.step.t) c.new
       (each_weaker (IsToldBy here y) (λ (d : ℕ × Datagram). WasMadeIfAny y.written.makes (carried d.1.body)) c.new (λ d told. told_made d.1.body c.promises c.makes c.belief told.says) c.told))))
-      (same_maker c.promises c.makes c.identity c.belief c.ballot)
+      (same_maker c.promises c.makes c.identity c.belief c.ballot (held_kept c.held))
   changed (Change.Raise c) =
       let promises : y.written.promises ≡ x.written.promises = ap (λ (w : Written). w.promises) c.written in
       let makes : y.written.makes ≡ x.written.makes = ap (λ (w : Written). w.makes) c.written in
       same_lists promises makes (same_sent makes (ap (λ (w : Written). w.sent) c.written))
-      (same_maker promises makes (ap (λ (p : Process). p.identity) c.process) (ap (λ (p : Process). p.belief) c.process) (ap (λ (p : Process). p.ballot) c.process))
+      (same_maker promises makes (ap (λ (p : Process). p.identity) c.process) (ap (λ (p : Process). p.belief) c.process) (ap (λ (p : Process). p.ballot) c.process) (rw c.process k.own.keeps.held))
   changed (Change.Hold c) =
       let b = ballot_after c.reason in
       rw (c.written, c.process) (record {
         history = k.history;
         own = record {
-          keeps = record { view = k.own.keeps.view; best = b.best };
+          keeps = record { view = k.own.keeps.view; best = b.best; held = k.own.keeps.held };
           seat = λ informed. seat_kept (last_decision x.process) (k.own.seat informed);
           ballot = λ o is. let h = b.holds o is in record { owned = h.owned; informed = h.informed; distinct = h.distinct; below = h.below; promised = h.promised; own = h.own; best = h.best };
         };
@@ -408,8 +428,8 @@ module _ (team : Team) (past : List Step) (s : Step) (here : Here) (x y : State)
       let makes : y.written.makes ≡ x.written.makes = ap (λ (w : Written). w.makes) c.written in
       let promises : y.written.promises ≡ x.written.promises = ap (λ (w : Written). w.promises) c.written in
       same_lists promises makes (same_sent makes (ap (λ (w : Written). w.sent) c.written)) (rw (c.written, c.process) (record {
-        keeps = record { view = carried_by_mail (record { head = c.head; body = bodies.Decision c.taken_decision }) c.received; best = k.own.keeps.best };
-        seat = λ informed. c.seat;
+        keeps = record { view = source_made c.taken_decision c.source; best = k.own.keeps.best; held = entered_made c.taken_decision };
+        seat = λ informed. (may_take here x c.taken_decision c.source before.own.held).seat;
         ballot = λ o is. let h = k.own.ballot o is in record { owned = h.owned; informed = refl; distinct = h.distinct; below = h.below; promised = h.promised; own = h.own; best = h.best };
       }))
   changed (Change.Give c) =
@@ -425,7 +445,7 @@ module _ (team : Team) (past : List Step) (s : Step) (here : Here) (x y : State)
           carried_made = same_sent makes (ap (λ (w : Written). w.sent) c.written);
         };
         own = rw c.process (record {
-          keeps = record { view = rw makes k.own.keeps.view; best = rw makes k.own.keeps.best };
+          keeps = record { view = rw makes k.own.keeps.view; best = rw makes k.own.keeps.best; held = rw makes k.own.keeps.held };
           seat = λ informed. given_seat c promises makes x.process.belief refl informed (k.own.seat informed);
           ballot = λ o is. let h = ballot_more team steps x.written y.written s.who x.process o more (k.own.ballot o is) in record { owned = h.owned; informed = h.informed; distinct = h.distinct; below = h.below; promised = h.promised; own = h.own; best = h.best };
         });
@@ -457,7 +477,7 @@ module _ (team : Team) (past : List Step) (s : Step) (here : Here) (x y : State)
               (λ z. if_any_more x.written.makes y.written.makes (carried z.datagram.body) more) k.history.carried_made);
         };
         own = rw c.process (record {
-          keeps = record { view = (new, rw makes (inl refl), refl); best = made_best c more c.reason };
+          keeps = record { view = (new, rw makes (inl refl), refl); best = made_best c more c.reason; held = if_any_more x.written.makes y.written.makes _ more (entered_made c.making.decision) };
           seat = λ informed. new_seat c;
           ballot = λ o is. let h = made_ballot c promises c.reason o is in record { owned = h.owned; informed = refl; distinct = h.distinct; below = h.below; promised = h.promised; own = h.own; best = h.best };
         });

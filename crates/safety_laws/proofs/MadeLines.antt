@@ -14,7 +14,7 @@ use Rattle.tw_machine.specs.History.{Promised, Make, history}
 use Rattle.tw_machine.specs.Places.{Each, Exists}
 use Rattle.tw_machine.specs.Rows.{rows_of}
 use Rattle.tw_machine.specs.Started.{makings, making_of, members_of, has_started, started_at}
-use Rattle.tw_machine.specs.World.{IsReplayable}
+use Rattle.tw_machine.specs.World.{Admissible}
 use Rattle.tw_machine.proofs.Started.{started_is_greatest, none_has_started}
 use Rattle.safety_laws.specs.Laws.{In}
 use Rattle.safety_laws.specs.Made.{WasMade, AllArise, members, Begins}
@@ -93,7 +93,7 @@ pub record ArePrinted (rows : List Row) (makes : List Make) : Type 0 where
   pub each_line : Each rows (λ i r. r.made ≢ None → (k : Make) × In k makes × IsMadeLineOf r k)
   pub each_make : (k : Make) → In k makes → Exists rows (λ i r. IsMadeLineOf r k)
 
-pub are_printed : (team : Team) (past : List Step) → IsReplayable team past → ArePrinted (rows_of team past) (history team past).makes
+pub are_printed : (team : Team) (past : List Step) → Admissible team past → ArePrinted (rows_of team past) (history team past).makes
 are_printed team past ok = record { each_line = made_lines_seen team past ok; each_make = makes_printed team past ok }
 
 module _ (rows : List Row) (makes : List Make) (printed : ArePrinted rows makes) where

@@ -97,7 +97,7 @@ ballot_more team steps w v who p b more k = record {
 pub maker_more : (team : Team) (steps : List Step) (w v : Written) (who : ℕ) (p : Process) → More w.promises v.promises → More w.makes v.makes → ((o : Option Decision) → HasSeat steps w who p o → HasSeat steps v who p o)
     → OfMaker team steps w who p → OfMaker team steps v who p
 maker_more team steps w v who p promises makes seat k = record {
-  keeps = record { view = if_any_more w.makes v.makes (view_decision p.belief) makes k.keeps.view; best = if_any_more w.makes v.makes _ makes k.keeps.best };
+  keeps = record { view = if_any_more w.makes v.makes (view_decision p.belief) makes k.keeps.view; best = if_any_more w.makes v.makes _ makes k.keeps.best; held = if_any_more w.makes v.makes _ makes k.keeps.held };
   seat = λ informed. seat (last_decision p) (k.seat informed);
   ballot = λ b is. ballot_more team steps w v who p b promises (k.ballot b is);
 }

@@ -9,7 +9,7 @@ use Rattle.tw_types.specs.Process.{Process, started}
 use Rattle.tw_machine.specs.Admissible.{may_start}
 use Rattle.tw_machine.specs.History.{Promised, Make, life}
 use Rattle.tw_machine.specs.Standing.{last_decision}
-use Rattle.tw_machine.specs.World.{IsReplayable}
+use Rattle.tw_machine.specs.World.{Admissible}
 use Rattle.safety_laws.specs.Effects.{Written}
 use Rattle.safety_laws.specs.Made.{HasSeat, OfMaker, made}
 use Rattle.safety_laws.specs.Names.{promise_name, make_name, IsNamed, AreNamed}
@@ -32,7 +32,7 @@ remains team past s w who p same k = record {
     seat_kept None h = (same ∙ h.0, h.1, h.2)
 
 -- a first start is of a process that never ran
-pub first_life : (team : Team) (past : List Step) (s : Step) → IsReplayable team (s ∷ past) → s.act ≡ start_by modes.First → life s.who past ≡ 0
+pub first_life : (team : Team) (past : List Step) (s : Step) → Admissible team (s ∷ past) → s.act ≡ start_by modes.First → life s.who past ≡ 0
 first_life team past s ok act = go (life s.who past) refl
   where
     may : may_start past s ≡ true
@@ -42,9 +42,9 @@ first_life team past s ok act = go (life s.who past) refl
     go zero e = refl
     go (suc l) e = absurd (let again : false ≡ true = is_again_later past s modes.First act may (omega (arith, e)) in cc)
 
-begins : (team : Team) (past : List Step) (s : Step) (w : Written) (mode : Mode) → IsReplayable team (s ∷ past) → s.act ≡ start_by mode → life s.who (s ∷ past) ≡ suc (life s.who past) → AreNamed past w → OfMaker team (s ∷ past) w s.who (started s.who mode s.h)
+begins : (team : Team) (past : List Step) (s : Step) (w : Written) (mode : Mode) → Admissible team (s ∷ past) → s.act ≡ start_by mode → life s.who (s ∷ past) ≡ suc (life s.who past) → AreNamed past w → OfMaker team (s ∷ past) w s.who (started s.who mode s.h)
 begins team past s w modes.First ok act more k = record {
-  keeps = record { view = tt; best = tt };
+  keeps = record { view = tt; best = tt; held = tt };
   seat = λ informed. (
     more ∙ ap suc (first_life team past s ok act),
     each_weaker (λ (m : Make). IsNamed past (make_name m)) (λ (m : Make). m.who ≢ s.who) w.makes (λ m named mine. none m.who m.life mine named.started named.life) k.makes,
@@ -56,7 +56,7 @@ begins team past s w modes.First ok act more k = record {
     none : (who l : ℕ) → who ≡ s.who → 1 ≤ l → l ≤ life who past → ⊥
     none who l mine some low = let own : l ≤ life s.who past = subst (λ q. l ≤ life q past) mine low in let zero_life = first_life team past s ok act in omega arith
 begins team past s w modes.Again ok act more k = record {
-  keeps = record { view = tt; best = tt };
+  keeps = record { view = tt; best = tt; held = tt };
   seat = λ informed. absurd (cc);
   ballot = λ b is. absurd (cc);
 }

@@ -7,19 +7,20 @@ use Rattle.tw_types.specs.declared.datagram.Body.{Body}
 use Rattle.tw_types.specs.declared.datagram.Body.TheVariants as bodies
 use Rattle.tw_types.specs.declared.datagram.Datagram.{Datagram}
 use Rattle.tw_types.specs.declared.datagram.Why.{Why}
-use Rattle.tw_types.specs.declared.ballot.Ballot.{Ballot}
 use Rattle.tw_types.specs.declared.message.Kept.{Kept}
+use Rattle.tw_types.specs.declared.message.Order.{Order}
+use Rattle.tw_types.specs.declared.message.Atom.{Atom}
+use Rattle.tw_types.specs.declared.datagram.Want.{Want}
 use Rattle.tw_types.specs.declared.message.Decision.{Decision}
-use Rattle.tw_types.specs.declared.message.Member.{Member}
 use Rattle.tw_types.specs.declared.answer.Reason.{Reason}
 use Rattle.tw_types.specs.declared.answer.Reason.TheVariants as reasons
 use Rattle.tw_types.specs.Refusals.{first_refusal}
 use Rattle.tw_types.specs.Votes.{Promise, Making}
 use Rattle.tw_types.specs.Ballots.{wants}
 use Rattle.tw_types.specs.Elections.{why_begun, own_promise}
-use Rattle.tw_types.specs.Beliefs.{Log}
-use Rattle.tw_types.specs.Waiting.{payloads_of}
-use Rattle.tw_types.specs.Groups.{NoGroup, group_made, group_making, first_decision, objections, first_objection, next_making}
+use Rattle.tw_types.specs.Beliefs.{view_decision}
+use Rattle.tw_types.specs.Waiting.{payloads_of, Putting, Filled, putting}
+use Rattle.tw_types.specs.Groups.{group_making, next_making}
 use Rattle.tw_types.specs.Turns.{next_decision}
 use Rattle.tw_types.specs.Process.{Process, ToGroup}
 use Rattle.tw_machine.specs.Event.{Event}
@@ -28,6 +29,8 @@ use Rattle.tw_machine.specs.Sending.{sent_to_others}
 use Rattle.tw_machine.specs.Standing.{member_of, last_decision, report_by, promise_by}
 use Rattle.tw_machine.specs.Control.{rate_of, timely_reading, if_timely}
 use Rattle.tw_machine.specs.Entering.{decision_held}
+use Rattle.tw_machine.specs.Updating.{use_if_whole, update_kept, update_put, received_as, take_update, answer_ask}
+use Rattle.tw_machine.specs.Proposing.{own_update, seq_given, update_sent, propose}
 use Rattle.tw_machine.specs.Taking.{take_decision}
 use Rattle.tw_machine.specs.Electing.{answer_tests, election_answered, answer_election, ballot_dropped, has_spent_ballot, drop_ballot, holds_election, election_begun, begin_election}
 use Rattle.tw_machine.specs.Deciding.{decision_made, has_turn, entries_to_add, turn_taken, take_turn}
@@ -35,9 +38,9 @@ use Rattle.tw_machine.specs.Grouping.{promise_added, take_promise, make_group}
 use Rattle.tw_machine.specs.Beating.{is_due, beat_marked, is_repeated, repeat_decision, ask_again, beat_given, give_beat}
 use Rattle.tw_machine.specs.Rules.{kind_rule, rule}
 use Rattle.tw_machine.specs.Duties.{timed_duties, duties_if_timed, duties}
-use Rattle.tw_machine.specs.Step.{moment_of, read_by, ruled_by, has_duties, ended_by, step}
-use Rattle.tw_machine.proofs.Ends.{by_taking, by_group, by_asking}
-use Rattle.tw_machine.proofs.Exclusions.{turn_or_group, no_turn}
+use Rattle.tw_machine.specs.Step.{learnt_by, moment_of, read_by, event_rule, ruled_by, has_duties, ended_by, step}
+use Rattle.tw_machine.proofs.Ends.{by_entering, by_taking, by_group, by_asking, by_using, by_kept, by_putting, by_answering, by_proposing, by_event}
+use Rattle.tw_machine.proofs.Exclusions.{turn_or_group, no_turn, group_time}
 
 -- from one run to a later one nothing more is made
 record MakesNone (a b : Run) : Type 0 where
@@ -97,19 +100,11 @@ turn_agrees team now t r idle reading = go (last_decision r.process)
     go None = idle_agrees now r idle
     go (Some last) = by_test last (has_turn team t r.process)
 
--- a group is made at the moment of its making
-group_time : (team : Team) (ballot : Ballot) (log : Log) (payloads : List Kept) (me : Member) (t : ℕ) (d : Decision) → group_made team ballot log payloads me t ≡ Ok d → d.made ≡ t
-group_time team ballot log payloads me t d e = go (first_objection (objections team ballot log payloads me)) e
-  where
-    go : (o : Option NoGroup) → (elim o as (λ o. Result Decision NoGroup) [ None ↦ Ok (first_decision team ballot me t) | Some why ↦ Err why ]) ≡ Ok d → d.made ≡ t
-    go None e = let is : first_decision team ballot me t ≡ d = cc in ap (λ (d : Decision). d.made) (sym is)
-    go (Some why) e = absurd (cc)
-
 group_agrees : (team : Team) (now : Moment) (t : ℕ) (r : Run) → IsIdle r → now.reading ≡ Some t → Agrees now (make_group team now t r)
 group_agrees team now t r idle reading = by_group team now t r (Agrees now) (idle_agrees now r idle)
     (λ ballot d is full e. made_agrees team now (group_making ballot d) t (ballot_dropped r) (record { line = idle.line; told = idle.told }) reading
     (group_time team ballot r.process.log (payloads_of r.process.waiting) (member_of r.process.identity) t d e))
-    (λ best source id. still_agrees now r (decision_held now ToGroup best source id r) (record { line = refl; told = refl }) (idle_agrees now r idle))
+    (λ ballot best id is e. still_agrees now r (decision_held now ToGroup best ballot.best_from id r) (record { line = refl; told = refl }) (idle_agrees now r idle))
 
 -- who has its turn makes no group
 turn_or_group_agrees : (team : Team) (now : Moment) (t : ℕ) (r : Run) → IsIdle r → now.reading ≡ Some t → Agrees now (make_group team now t (take_turn team now t (drop_ballot team t r)))
@@ -195,14 +190,36 @@ timely_none team now head rule r each = go (timely_reading (rate_of team now hea
     go (Err reason) = same r
     go (Ok t) = each t
 
+use_none : (now : Moment) (r : Run) → MakesNone r (use_if_whole now r)
+use_none now r = by_using now r (MakesNone r) (same r) (record { line = refl; told = refl })
+    (λ h hold is held purpose fresh. by_entering now h.decision r (λ k. MakesNone r k.run) (λ fits whole. record { line = refl; told = refl }) (λ id. record { line = refl; told = refl }) (λ reason e. same r))
+
+filled_none : (now : Moment) (k : Kept) (r : Run) → MakesNone r (use_if_whole now (update_kept Filled k r))
+filled_none now k r = let used = use_none now (update_kept Filled k r) in record { line = used.line; told = used.told }
+
+update_none : (now : Moment) (k : Kept) (r : Run) → MakesNone r (take_update now k r).run
+update_none now k r = by_putting now (received_as r.process k) k r (λ z. MakesNone r z.run) (filled_none now k r) (record { line = refl; told = refl }) (λ reason other. same r)
+
+ask_back_none : (now : Moment) (from : ℕ) (want : Want) (r : Run) → MakesNone r (answer_ask now from want r).run
+ask_back_none now from want r = by_answering now from want r (λ z. MakesNone r z.run) (λ k. record { line = refl; told = refl }) (same r)
+
+put_none : (now : Moment) (p : Putting) (k : Kept) (r : Run) → MakesNone r (update_put now p k r)
+put_none now p k r = by_kept now p k r (MakesNone r) (same r) (record { line = refl; told = refl }) (filled_none now k r)
+
+sent_none : (team : Team) (now : Moment) (k : Kept) (r : Run) → MakesNone r (update_sent team now k r)
+sent_none team now k r = let put = put_none now (putting (view_decision r.process.belief) k r.process.waiting) k (seq_given k.entry.id.seq r) in record { line = put.line; told = put.told }
+
+propose_none : (team : Team) (now : Moment) (order : Order) (atom : Atom) (payload : List ℕ) (r : Run) → MakesNone r (propose team now order atom payload r).run
+propose_none team now order atom payload r = by_proposing team now order atom payload r (λ z. MakesNone r z.run) (λ free. sent_none team now (own_update now order atom payload r.process) r) (λ why e. same r)
+
 kind_none : (team : Team) (now : Moment) (head : Head) (body : Body) (r : Run) → MakesNone r (kind_rule team now head body r).run
 unfolding kind_rule
-kind_none team now head (bodies.Update kept) r = same r
+kind_none team now head (bodies.Update kept) r = update_none now kept r
 kind_none team now head (bodies.Decision d) r = timely_none team now head (λ t. take_decision now d) r (λ t. decision_none now d r)
 kind_none team now head (bodies.NoDecision number group turn skip reports best) r = same r
 kind_none team now head (bodies.Election number why) r = timely_none team now head (answer_election team now head.from number why) r (λ t. answer_none team now head.from number why t r)
 kind_none team now head (bodies.Promise number report d) r = timely_none team now head (λ t. take_promise (record { number = number; report = report; decision = d })) r (λ t. promise_none (record { number = number; report = report; decision = d }) r)
-kind_none team now head (bodies.Ask want) r = same r
+kind_none team now head (bodies.Ask want) r = ask_back_none now head.from want r
 kind_none team now head (bodies.State group position total offset bytes) r = same r
 kind_none team now head (bodies.Sync ready) r = same r
 
@@ -210,6 +227,9 @@ rule_none : (team : Team) (now : Moment) (packet : Result (Option Datagram) Reas
 rule_none team now (Err reason) r = same r
 rule_none team now (Ok None) r = same r
 rule_none team now (Ok (Some d)) r = kind_none team now d.head d.body r
+
+own_none : (team : Team) (now : Moment) (e : Event) (packet : Result (Option Datagram) Reason) (r : Run) → MakesNone r (event_rule team now e packet r).run
+own_none team now e packet r = by_event team now e packet r (λ z. MakesNone r z.run) (rule_none team now packet r) (λ order atom payload. propose_none team now order atom payload r)
 
 -- ---- the whole
 
@@ -223,7 +243,7 @@ ended_agrees team h e p = go (has_duties e)
     ruled = (ruled_by team h e p).run
 
     idle : IsIdle (ruled_by team h e p).run
-    idle = still_idle (read_by team h e p) (ruled_by team h e p).run (rule_none team (moment_of team h e p) _ (read_by team h e p)) (record { line = refl; told = refl })
+    idle = still_idle (read_by team h e p) (ruled_by team h e p).run (own_none team (moment_of team h e p) e (learnt_by team h e p).packet (read_by team h e p)) (record { line = refl; told = refl })
 
     go : (b : Bool) → Agrees now (cond b (duties team now ruled) ruled)
     go true = duties_agree team now ruled idle

@@ -10,7 +10,7 @@ use Rattle.tw_types.specs.Votes.{Vote}
 use Rattle.tw_machine.specs.History.{life, make_item}
 use Rattle.tw_machine.specs.History as items
 use Rattle.tw_machine.specs.Standing.{member_of}
-use Rattle.tw_machine.specs.World.{world, IsReplayable}
+use Rattle.tw_machine.specs.World.{world, Admissible}
 use Rattle.safety_laws.specs.Effects.{Written, State, Here, Change}
 use Rattle.safety_laws.specs.Laws.{Holds}
 use Rattle.safety_laws.specs.Memory.{IsAtLeast, Remembers, memory}
@@ -22,7 +22,7 @@ use Rattle.safety_laws.proofs.Lists.{each_from, each_weaker, of_each}
 use Rattle.safety_laws.proofs.Names as names
 use Rattle.safety_laws.proofs.Stack.{Stepping, RulesOver}
 
-begins : (team : Team) (past : List Step) (s : Step) (w : Written) (mode : Mode) → IsReplayable team (s ∷ past) → s.act ≡ start_by mode → life s.who (s ∷ past) ≡ suc (life s.who past) → AreNamed past w → Remembers (s ∷ past) w s.who (started s.who mode s.h)
+begins : (team : Team) (past : List Step) (s : Step) (w : Written) (mode : Mode) → Admissible team (s ∷ past) → s.act ≡ start_by mode → life s.who (s ∷ past) ≡ suc (life s.who past) → AreNamed past w → Remembers (s ∷ past) w s.who (started s.who mode s.h)
 begins team past s w mode ok act more k = record {
   support = each_weaker (λ (d : items.Make). IsNamed past (make_name d)) (λ (d : items.Make). d.who ≡ s.who → d.life ≡ life s.who (s ∷ past) → IsAtLeast (make_reading d) None) w.makes
       (λ d named mine same. absurd (not_now d.who d.life mine same named.life)) k.makes;

@@ -15,7 +15,7 @@ use Rattle.tw_types.specs.declared.message.Report.{Report}
 use Rattle.tw_machine.specs.History.{Promised, Up, life, promise_item, make_item, up_at}
 use Rattle.tw_machine.specs.Standing.{member_of}
 use Rattle.tw_machine.specs.History as items
-use Rattle.tw_machine.specs.World.{world, IsReplayable}
+use Rattle.tw_machine.specs.World.{world, Admissible}
 use Rattle.tw_machine.proofs.Tables.{same_number}
 use Rattle.safety_laws.specs.Clocks.{MayRead}
 use Rattle.safety_laws.specs.Effects.{Written, State, Here, Promises, Makes, Change}
@@ -114,7 +114,7 @@ remains past s w who p same k = record {
 }
 
 -- an item that was written down before a start is of an earlier life
-earlier_life : (team : Team) (past : List Step) (s : Step) (mode : Mode) (name : Name) → IsReplayable team (s ∷ past) → s.act ≡ start_by mode → life s.who (s ∷ past) ≡ suc (life s.who past)
+earlier_life : (team : Team) (past : List Step) (s : Step) (mode : Mode) (name : Name) → Admissible team (s ∷ past) → s.act ≡ start_by mode → life s.who (s ∷ past) ≡ suc (life s.who past)
     → IsNamed past name → name.who ≡ s.who → IsOfLife (life s.who (s ∷ past)) (started s.who mode s.h) s.t name
 earlier_life team past s mode name ok act more k mine =
     let read : HasRead past s.who name.t name.h = subst (λ q. HasRead past q name.t name.h) mine k.read in
@@ -126,7 +126,7 @@ earlier_life team past s mode name ok act more k mine =
     let incarnation = k.incarnation in
     Earlier (rw more (omega arith)) (omega arith) (not_later past s.who s.t name.t name.h met.time read) (is_again_later past s mode act may (omega arith))
 
-pub begins : (team : Team) (past : List Step) (s : Step) (w : Written) (mode : Mode) → IsReplayable team (s ∷ past) → s.act ≡ start_by mode → life s.who (s ∷ past) ≡ suc (life s.who past) → AreNamed past w → IsOwn (s ∷ past) w s.who (started s.who mode s.h)
+pub begins : (team : Team) (past : List Step) (s : Step) (w : Written) (mode : Mode) → Admissible team (s ∷ past) → s.act ≡ start_by mode → life s.who (s ∷ past) ≡ suc (life s.who past) → AreNamed past w → IsOwn (s ∷ past) w s.who (started s.who mode s.h)
 begins team past s w mode ok act more k = record {
   is = refl;
   lives = rw more (omega arith);
@@ -154,7 +154,7 @@ record IsNew (past : List Step) (s : Step) (p : Process) (name : Name) : Type 0 
   h : name.h ≡ s.h
   incarnation : name.member.incarnation ≡ p.identity.incarnation
 
-new_named : (team : Team) (past : List Step) (s : Step) (x : State) (name : Name) → IsReplayable team (s ∷ past) → 1 ≤ life s.who (s ∷ past) → IsOwn (s ∷ past) x.written s.who x.process → IsNew past s x.process name → IsNamed (s ∷ past) name
+new_named : (team : Team) (past : List Step) (s : Step) (x : State) (name : Name) → Admissible team (s ∷ past) → 1 ≤ life s.who (s ∷ past) → IsOwn (s ∷ past) x.written s.who x.process → IsNew past s x.process name → IsNamed (s ∷ past) name
 new_named team past s x name ok alive own new = record {
   member = new.member ∙ sym new.who;
   started = rw new.life alive;

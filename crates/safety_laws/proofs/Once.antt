@@ -5,7 +5,6 @@ use Rattle.std.specs.Option.{option_map}
 use Rattle.std.proofs.lemmas.Bool.Decides.{nat_tests}
 use Rattle.tw_types.specs.declared.team.Team.{Team}
 use Rattle.tw_types.specs.declared.ballot.Ballot.{Ballot}
-use Rattle.tw_types.specs.declared.datagram.Body.TheVariants as bodies
 use Rattle.tw_types.specs.declared.message.Entry.{Entry}
 use Rattle.tw_types.specs.declared.message.Decision.{Decision}
 use Rattle.tw_types.specs.declared.message.Member.{Member}
@@ -29,7 +28,7 @@ use Rattle.tw_machine.specs.Standing.{member_of, last_decision}
 use Rattle.tw_machine.specs.Deciding.{entries_to_add}
 use Rattle.tw_machine.specs.World.{world}
 use Rattle.safety_laws.specs.Ascend.{IsBelow, Ascends}
-use Rattle.safety_laws.specs.Effects.{Written, State, Here, BallotReason, Begins, Adds, Drops, Takes, MakeReason, Next, Group, Makes, Change}
+use Rattle.safety_laws.specs.Effects.{Written, State, Here, BallotReason, Begins, Adds, Drops, MayTake, Takes, MakeReason, Next, Group, Makes, Change}
 use Rattle.safety_laws.specs.Laws.{Law, Holds, Both, In}
 use Rattle.safety_laws.specs.Made.{IsBeginOf, IsNotOlder, WasMade, TellsLast, TellsDecision, Arises, AsFirst, AsNext, IsUnderPromise, BallotHolds, OfMakes, OfMaker, made}
 use Rattle.safety_laws.specs.Memory.{memory}
@@ -39,9 +38,10 @@ use Rattle.safety_laws.specs.Windows.{IsInWindow}
 use Rattle.safety_laws.specs.Promises.{OfPromises, OfPromiser, of_promises}
 use Rattle.safety_laws.proofs.Ballots.{not_older_self, not_older_over, not_older_by_group, not_older_group, older_is_not}
 use Rattle.safety_laws.proofs.FirstDecisions.{IsFirstOf, same_member_of}
+use Rattle.safety_laws.proofs.Held.{may_take}
 use Rattle.safety_laws.proofs.Lists.{of_each, each_from, each_weaker}
 use Rattle.safety_laws.proofs.Induction.{start_by}
-use Rattle.safety_laws.proofs.Made.{is_group, carried_by_mail}
+use Rattle.safety_laws.proofs.Made.{is_group, source_made}
 use Rattle.safety_laws.proofs.MadeRules.{first_life}
 use Rattle.safety_laws.proofs.MadeLists.{last_made, has_last}
 use Rattle.safety_laws.proofs.NextDecisions.{seat_due, next_seat, any_in}
@@ -215,6 +215,9 @@ module _ (team : Team) (past : List Step) (s : Step) (here : Here) (x y : State)
 
   -- ---- a taken decision
 
+  may : (c : Takes here x y) → MayTake x.process c.taken_decision
+  may c = may_take here x c.taken_decision c.source mine.held
+
   -- A blank process that takes a decision promised its group in this life, so it is above all that it made: what it made in an earlier
   -- life is of a lower group, and in this life it made nothing as the member that it is.
   blank_above : (c : Takes here x y) → is_informed x.process.belief ≡ false → 1 ≤ c.taken_decision.group → WasMade x.written.makes c.taken_decision → (d : items.Make) → In d x.written.makes → d.who ≡ s.who
@@ -222,7 +225,7 @@ module _ (team : Team) (past : List Step) (s : Step) (here : Here) (x y : State)
   blank_above c lost positive was d i by = go (is_same d.making.decision.group c.taken_decision.group)
     where
       some : 0 < x.process.vote.promised
-      some = let same = c.promised in omega arith
+      some = let same = (may c).promised in omega arith
 
       u : IsUnderPromise x.written.promises d
       u = under_of d i
@@ -231,7 +234,7 @@ module _ (team : Team) (past : List Step) (s : Step) (here : Here) (x y : State)
       other = of_each (λ (m : items.Make). m.who ≡ s.who → m.member ≢ member_of x.process.identity) x.written.makes d (before.own.0.1.blank lost) i by
 
       seat : (e : Seat) × In e c.taken_decision.seats.items × (is_seat_of (member_of x.process.identity) e ≡ true)
-      seat = any_in (is_seat_of (member_of x.process.identity)) c.taken_decision.seats.items c.seat
+      seat = any_in (is_seat_of (member_of x.process.identity)) c.taken_decision.seats.items (may c).seat
 
       promised : AllByRecursion (IsPromisedSeat x.written.promises c.taken_decision.group) c.taken_decision.seats.items
       promised = subst (λ (z : Decision). AllByRecursion (IsPromisedSeat x.written.promises z.group) z.seats.items) was.2
@@ -259,14 +262,14 @@ module _ (team : Team) (past : List Step) (s : Step) (here : Here) (x y : State)
           absurd (other (sym u.3 ∙ ap (λ (v : Promised). v.promise.report.member) one ∙ member))
       go (inr different) =
           let low = not_above some d i by in
-          let number = c.promised in
+          let number = (may c).promised in
           not_older_by_group c.taken_decision.group c.taken_decision.turn d.making.decision.group d.making.decision.turn (omega arith)
 
   taken_above : (c : Takes here x y) → (d : items.Make) → In d x.written.makes → d.who ≡ s.who → IsNotOlder c.taken_decision.group c.taken_decision.turn d.making.decision.group d.making.decision.turn
   taken_above c d i by = go x.process.belief refl
     where
       was : WasMade x.written.makes c.taken_decision
-      was = carried_by_mail team past s here x y at mailed change early early_after made_before (record { head = c.head; body = bodies.Decision c.taken_decision }) c.received
+      was = source_made team past s here x y at mailed change early early_after made_before c.taken_decision c.source
 
       positive : 1 ≤ c.taken_decision.group
       positive = subst (λ (z : Decision). 1 ≤ z.group) was.2 (of_each (λ (m : items.Make). 1 ≤ m.making.decision.group) x.written.makes was.0 (all_positive team x.written.promises x.written.makes makes.arise) was.1)
@@ -275,7 +278,7 @@ module _ (team : Team) (past : List Step) (s : Step) (here : Here) (x y : State)
       go (Informed None) is = absurd (subst (λ o. StandsAbove o d) (ap last_of is) (above_of (ap is_informed is) d i by))
       go (Informed (Some last)) is =
           let low = above_last last (ap last_of is) d i by in
-          let newer : is_older last.group last.turn c.taken_decision.group c.taken_decision.turn ≡ true = subst (λ (b : Belief). is_older (or_none (view_decision b)).group (or_none (view_decision b)).turn c.taken_decision.group c.taken_decision.turn ≡ true) is c.newer in
+          let newer : is_older last.group last.turn c.taken_decision.group c.taken_decision.turn ≡ true = subst (λ (b : Belief). is_older (or_none (view_decision b)).group (or_none (view_decision b)).turn c.taken_decision.group c.taken_decision.turn ≡ true) is (may c).newer in
           not_older_over c.taken_decision.group c.taken_decision.turn last.group last.turn d.making.decision.group d.making.decision.turn (older_is_not last.group last.turn c.taken_decision.group c.taken_decision.turn newer) low
       go (Blank followed) is = blank_above c (ap is_informed is) positive was d i by
 

@@ -3,16 +3,18 @@ use Rattle.std.proofs.Common.{List}
 use Rattle.tw_types.specs.declared.team.Team.{Team}
 use Rattle.tw_types.specs.Team.{IsSound}
 use Rattle.tw_types.specs.declared.step.Step.{Step}
-use Rattle.tw_machine.specs.World.{IsReplayable}
+use Rattle.tw_machine.specs.World.{Admissible}
 use Rattle.safety_laws.specs.Ascend.{ascend}
+use Rattle.safety_laws.specs.Held.{held}
 use Rattle.safety_laws.specs.Latest.{latest}
-use Rattle.safety_laws.specs.Laws.{Law, Both}
+use Rattle.safety_laws.specs.Laws.{Law, no_law, Both}
 use Rattle.safety_laws.specs.Mail.{mail}
 use Rattle.safety_laws.specs.Names.{names}
 use Rattle.safety_laws.specs.NotAhead.{not_ahead}
 use Rattle.safety_laws.specs.Outlived.{outlived}
 use Rattle.safety_laws.specs.Windows.{windows}
 use Rattle.safety_laws.proofs.Ascend.{before_ascent, ascend_rules}
+use Rattle.safety_laws.proofs.Held.{held_rules}
 use Rattle.safety_laws.proofs.Latest.{latest_rules}
 use Rattle.safety_laws.proofs.Mail.{mail_rules}
 use Rattle.safety_laws.proofs.Names.{names_rules}
@@ -32,8 +34,11 @@ with_ascent team = Both (before_ascent team) ascend
 abbrev with_mail : Team → Law
 with_mail team = Both (with_ascent team) mail
 
+abbrev with_outlived : Team → Law
+with_outlived team = Both (with_mail team) (outlived team)
+
 abbrev with_all : Team → Law
-with_all team = Both (with_mail team) (outlived team)
+with_all team = Both (with_outlived team) held
 
 readings_rules : (team : Team) → LawRules team (Both names (not_ahead team))
 readings_rules team = stack team names (not_ahead team) (names_rules team) (not_ahead_rules team)
@@ -52,21 +57,25 @@ mail_too : (team : Team) → LawRules team (with_mail team)
 mail_too team = stack team (with_ascent team) mail (ascent_too team)
     (rests_on team names (with_ascent team) mail (record { history = λ steps w k. k.0.0.0.0; running = λ steps w who p k. k.0.0.0.0 }) (mail_rules team))
 
-all_too : (team : Team) → LawRules team (with_all team)
-all_too team = stack team (with_mail team) (outlived team) (mail_too team)
+outlived_too : (team : Team) → LawRules team (with_outlived team)
+outlived_too team = stack team (with_mail team) (outlived team) (mail_too team)
     (rests_on team (Both names (not_ahead team)) (with_mail team) (outlived team) (record { history = λ steps w k. k.0.0.0.0; running = λ steps w who p k. k.0.0.0.0 }) (outlived_rules team))
+
+all_too : (team : Team) → LawRules team (with_all team)
+all_too team = stack team (with_outlived team) held (outlived_too team)
+    (rests_on team no_law (with_outlived team) held (record { history = λ steps w k. tt; running = λ steps w who p k. tt }) (held_rules team))
 
 same_law : (team : Team) → IsSameLaw (with_all team) (of_promises team)
 same_law team = record {
-  history = λ steps w k. record { names = k.0.0.0.0.0.0; near = k.0.0.0.0.0.1; windows = k.0.0.0.0.1; ascend = k.0.0.1; mail = k.0.1; outlived = k.1 };
-  history_back = λ steps w k. ((((((k.names, k.near), k.windows), tt), k.ascend), k.mail), k.outlived);
-  running = λ steps w who p k. record { own = k.0.0.0.0.0.0; behind = k.0.0.0.0.0.1; latest = k.0.0.0.1 };
-  running_back = λ steps w who p k. ((((((k.own, k.behind), tt), k.latest), tt), tt), tt);
+  history = λ steps w k. record { names = k.0.0.0.0.0.0.0; near = k.0.0.0.0.0.0.1; windows = k.0.0.0.0.0.1; ascend = k.0.0.0.1; mail = k.0.0.1; outlived = k.0.1 };
+  history_back = λ steps w k. (((((((k.names, k.near), k.windows), tt), k.ascend), k.mail), k.outlived), tt);
+  running = λ steps w who p k. record { own = k.0.0.0.0.0.0.0; behind = k.0.0.0.0.0.0.1; latest = k.0.0.0.0.1; held = k.1 };
+  running_back = λ steps w who p k. (((((((k.own, k.behind), tt), k.latest), tt), tt), tt), k.held);
 }
 
 pub promises_rules : (team : Team) → LawRules team (of_promises team)
 promises_rules team = renamed team (with_all team) (of_promises team) (same_law team) (all_too team)
 
 -- in every schedule
-pub promised_well : (team : Team) (past : List Step) → IsSound team → IsReplayable team past → Kept team (of_promises team) past
+pub promised_well : (team : Team) (past : List Step) → IsSound team → Admissible team past → Kept team (of_promises team) past
 promised_well team past sound ok = law_holds team (of_promises team) (promises_rules team) past sound ok

@@ -12,7 +12,7 @@ use Rattle.tw_machine.specs.Places.{Each, Exists}
 use Rattle.tw_machine.specs.Rows.{row_of, rows_of}
 use Rattle.tw_machine.specs.SafeRows.{majority, life_of, AtLeast, IsOfStarted, OneStartedGroup, HasLease, LeasedSupport, SafeRows}
 use Rattle.tw_machine.specs.Started.{members_of, started_at}
-use Rattle.tw_machine.specs.World.{IsReplayable}
+use Rattle.tw_machine.specs.World.{Admissible}
 use Rattle.safety_laws.specs.Effects.{written}
 use Rattle.safety_laws.specs.Laws.{In}
 use Rattle.safety_laws.specs.Made.{members}
@@ -69,7 +69,7 @@ at_least_pushed count rows last P k = record {
 
 -- ---- one started group at a reading
 
-module _ (team : Team) (past : List Step) (sound : IsSound team) (ok : IsReplayable team past) where
+module _ (team : Team) (past : List Step) (sound : IsSound team) (ok : Admissible team past) where
   known : OfGroups team past (written team past)
   known = (grouped_well team past sound ok).history
 
@@ -123,7 +123,7 @@ module _ (team : Team) (past : List Step) (sound : IsSound team) (ok : IsReplaya
 -- ---- leased support
 
 -- of a row that is the last one so far
-last_leased : (team : Team) (past : List Step) (i : ℕ) (r : Row) (reading : ℕ) → IsSound team → IsReplayable team past → slice_get (rows_of team past) i ≡ Some r → length (rows_of team past) ≤ suc i → r.up ≡ true → r.reading ≡ Some reading
+last_leased : (team : Team) (past : List Step) (i : ℕ) (r : Row) (reading : ℕ) → IsSound team → Admissible team past → slice_get (rows_of team past) i ≡ Some r → length (rows_of team past) ≤ suc i → r.up ≡ true → r.reading ≡ Some reading
     → AtLeast (majority team) (rows_of team past) (HasLease team i r.group reading)
 last_leased team past i r reading sound ok at last up is =
     let u = flags_seen team past i r at up in
@@ -153,7 +153,7 @@ last_leased team past i r reading sound ok at last up is =
           ),
         )
 
-pub leased_support : (team : Team) (past : List Step) → IsSound team → IsReplayable team past → LeasedSupport team (rows_of team past)
+pub leased_support : (team : Team) (past : List Step) → IsSound team → Admissible team past → LeasedSupport team (rows_of team past)
 leased_support team [] sound ok = λ i r e. absurd (cc)
 leased_support team (s ∷ past) sound ok =
     each_pushed (λ i r. (reading : ℕ) → r.up ≡ true → r.reading ≡ Some reading → AtLeast (majority team) (rows_of team past ++ row_of team past s ∷ []) (HasLease team i r.group reading)) (rows_of team past) (row_of team past s)
@@ -166,7 +166,7 @@ leased_support team (s ∷ past) sound ok =
 
 -- ---- all seven clauses
 
-pub safe_rows : (team : Team) (past : List Step) → IsSound team → IsReplayable team past → SafeRows team (rows_of team past)
+pub safe_rows : (team : Team) (past : List Step) → IsSound team → Admissible team past → SafeRows team (rows_of team past)
 safe_rows team past sound ok =
     let quiet = safe_deliveries team past in
     record {

@@ -53,7 +53,7 @@ deed_delivers_nothing team who h sent Tick (Some p) = step_delivers_nothing team
 deed_delivers_nothing team who h sent (Recv d) None = record { passes = refl; earlies = refl }
 deed_delivers_nothing team who h sent (Recv d) (Some p) = received team h (numbered d sent) p
 deed_delivers_nothing team who h sent (Send order atom payload) None = record { passes = refl; earlies = refl }
-deed_delivers_nothing team who h sent (Send order atom payload) (Some p) = record { passes = refl; earlies = refl }
+deed_delivers_nothing team who h sent (Send order atom payload) (Some p) = step_delivers_nothing team h (Event.Send order atom payload.items) p
 deed_delivers_nothing team who h sent (Reference lo hi) None = record { passes = refl; earlies = refl }
 deed_delivers_nothing team who h sent (Reference lo hi) (Some p) = step_delivers_nothing team h (Event.Reference lo hi) p
 deed_delivers_nothing team who h sent Look None = record { passes = refl; earlies = refl }

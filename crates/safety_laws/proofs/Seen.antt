@@ -21,7 +21,7 @@ use Rattle.tw_machine.specs.Places.{Each, Exists}
 use Rattle.tw_machine.specs.Rows.{row_by, row_of, rows_of}
 use Rattle.tw_machine.specs.Standing.{member_of, last_decision}
 use Rattle.tw_machine.specs.Step.{moment_of, step, view_of}
-use Rattle.tw_machine.specs.World.{Deed, happen, deed_in, world, IsReplayable}
+use Rattle.tw_machine.specs.World.{Deed, happen, deed_in, world, Admissible}
 use Rattle.tw_machine.proofs.Steps.{viewed_after}
 use Rattle.safety_laws.specs.Laws.{In}
 use Rattle.safety_laws.specs.Mail.{TellsGiven}
@@ -106,7 +106,7 @@ deed_adds team past number already life s before older d (Turn.Looks p runs act 
 deed_adds team past number already life s before older d (Turn.Happens e p runs brings comes) =
     subst (AddsMake team number already life s before older) (sym comes) (event_adds team number already life s before older e p (step_agrees team s.h e p))
 
-makes_seen : (team : Team) (past : List Step) → IsReplayable team past → AreSeen HasLine IsMadeLineOf (rows_of team past) (history team past).makes
+makes_seen : (team : Team) (past : List Step) → Admissible team past → AreSeen HasLine IsMadeLineOf (rows_of team past) (history team past).makes
 makes_seen team [] ok = record { each_row = λ i r e. absurd (cc); each_item = λ k i. absurd i }
 makes_seen team (s ∷ past) ok =
     seen_on HasLine IsMadeLineOf (rows_of team past) (row_of team past s) (history team past).makes (history team (s ∷ past)).makes (makes_seen team past (earlier team past s ok))
@@ -159,10 +159,10 @@ ups_seen team (s ∷ past) =
 
 -- ---- in every schedule
 
-pub made_lines_seen : (team : Team) (past : List Step) → IsReplayable team past → Each (rows_of team past) (λ i r. r.made ≢ None → (k : Make) × In k (history team past).makes × IsMadeLineOf r k)
+pub made_lines_seen : (team : Team) (past : List Step) → Admissible team past → Each (rows_of team past) (λ i r. r.made ≢ None → (k : Make) × In k (history team past).makes × IsMadeLineOf r k)
 made_lines_seen team past ok = (makes_seen team past ok).each_row
 
-pub makes_printed : (team : Team) (past : List Step) → IsReplayable team past → (k : Make) → In k (history team past).makes → Exists (rows_of team past) (λ i r. IsMadeLineOf r k)
+pub makes_printed : (team : Team) (past : List Step) → Admissible team past → (k : Make) → In k (history team past).makes → Exists (rows_of team past) (λ i r. IsMadeLineOf r k)
 makes_printed team past ok = (makes_seen team past ok).each_item
 
 pub flags_seen : (team : Team) (past : List Step) → Each (rows_of team past) (λ i r. r.up ≡ true → (k : Up) × In k (history team past).ups × IsFlagOf r k)
@@ -171,7 +171,7 @@ flags_seen team past = (ups_seen team past).each_row
 pub ups_printed : (team : Team) (past : List Step) → (k : Up) → In k (history team past).ups → Exists (rows_of team past) (λ i r. IsFlagOf r k)
 ups_printed team past = (ups_seen team past).each_item
 
-pub promise_kept : (team : Team) (past : List Step) (who : ℕ) → IsSound team → IsReplayable team past
+pub promise_kept : (team : Team) (past : List Step) (who : ℕ) → IsSound team → Admissible team past
     → IfSome ((world team past).process_of who) (λ (p : Process). 0 < p.vote.promised → (x : Promised) × In x (history team past).promises × IsKeptPromise past who p x)
 promise_kept team past who sound ok = go ((world team past).process_of who) refl
   where
@@ -181,5 +181,5 @@ promise_kept team past who sound ok = go ((world team past).process_of who) refl
         let x = ((promised_well team past sound ok).running who p runs).latest.promised some in
         (x.0, x.1, record { by = x.2; present = x.3; number = x.4 })
 
-pub promises_told : (team : Team) (past : List Step) → IsSound team → IsReplayable team past → AllByRecursion (λ (k : Dispatch). TellsGiven (history team past).promises k.datagram.head.from k.datagram.body) (world team past).sent
+pub promises_told : (team : Team) (past : List Step) → IsSound team → Admissible team past → AllByRecursion (λ (k : Dispatch). TellsGiven (history team past).promises k.datagram.head.from k.datagram.body) (world team past).sent
 promises_told team past sound ok = (promised_well team past sound ok).history.mail

@@ -24,7 +24,7 @@ use Rattle.tw_machine.specs.History.{Up, life, up_on, up_by}
 use Rattle.tw_machine.specs.Run.{Run, run_of}
 use Rattle.tw_machine.specs.Standing.{last_decision}
 use Rattle.tw_machine.specs.Step.{learnt_by, moment_of, ended_by, step, looked, view_of}
-use Rattle.tw_machine.specs.World.{World, Deed, silent, happen, deed_in, world, IsReplayable}
+use Rattle.tw_machine.specs.World.{World, Deed, silent, happen, deed_in, world, Admissible}
 use Rattle.tw_machine.proofs.Clocks.{reading_again}
 use Rattle.tw_machine.proofs.Steps.{viewed_after}
 use Rattle.tw_machine.proofs.Tables.{equal_numbers, same_number, other_number}
@@ -43,7 +43,7 @@ nothing_written = record { promises = []; makes = []; ups = []; sent = [] }
 -- what is known of a step beside its effects: its process, its life, its clock, and that it received what was sent to it
 pub record Stepping (team : Team) (past : List Step) (s : Step) (here : Here) : Type 0 where
   pub sound : IsSound team
-  pub ok : IsReplayable team (s ∷ past)
+  pub ok : Admissible team (s ∷ past)
   pub same_team : here.team ≡ team
   pub same_step : here.step ≡ s
   pub same_life : here.life ≡ life s.who (s ∷ past)
@@ -58,11 +58,11 @@ IsMailed here w = (d : Datagram) → here.mail ≡ Some d → (k : Dispatch) × 
 pub record RulesOver (team : Team) (earlier law : Law) : Type 1 where
   pub nothing : law.History [] nothing_written
   -- a step more, of which nothing is written down yet
-  pub waits : (past : List Step) (s : Step) (w : Written) → IsSound team → IsReplayable team (s ∷ past) → earlier.History past w → law.History past w → law.History (s ∷ past) w
-  pub remains : (past : List Step) (s : Step) (w : Written) (who : ℕ) (p : Process) → IsSound team → IsReplayable team (s ∷ past) → life who (s ∷ past) ≡ life who past
+  pub waits : (past : List Step) (s : Step) (w : Written) → IsSound team → Admissible team (s ∷ past) → earlier.History past w → law.History past w → law.History (s ∷ past) w
+  pub remains : (past : List Step) (s : Step) (w : Written) (who : ℕ) (p : Process) → IsSound team → Admissible team (s ∷ past) → life who (s ∷ past) ≡ life who past
       → earlier.History past w → law.History past w → earlier.Running past w who p → law.Running past w who p → law.Running (s ∷ past) w who p
   -- a start
-  pub begins : (past : List Step) (s : Step) (w : Written) (mode : Mode) → IsSound team → IsReplayable team (s ∷ past) → s.act ≡ start_by mode → life s.who (s ∷ past) ≡ suc (life s.who past)
+  pub begins : (past : List Step) (s : Step) (w : Written) (mode : Mode) → IsSound team → Admissible team (s ∷ past) → s.act ≡ start_by mode → life s.who (s ∷ past) ≡ suc (life s.who past)
       → earlier.History past w → law.History past w → law.Running (s ∷ past) w s.who (started s.who mode s.h)
   -- an effect
   pub changes : (past : List Step) (s : Step) (here : Here) (x y : State) → Stepping team past s here → IsMailed here x.written → Change here x y
@@ -188,7 +188,7 @@ in_number [] (suc i) x e = absurd (cc)
 in_number (y ∷ xs) (suc zero) x e = inl (cc)
 in_number (y ∷ xs) (suc (suc i)) x e = inr (in_number xs (suc i) x e)
 
-module _ (team : Team) (law : Law) (rules : LawRules team law) (past : List Step) (s : Step) (sound : IsSound team) (ok : IsReplayable team (s ∷ past)) (k : Kept team law past) where
+module _ (team : Team) (law : Law) (rules : LawRules team law) (past : List Step) (s : Step) (sound : IsSound team) (ok : Admissible team (s ∷ past)) (k : Kept team law past) where
   waited : law.History (s ∷ past) (written team past)
   waited = rules.waits past s (written team past) sound ok tt k.history
 
@@ -297,6 +297,7 @@ module _ (team : Team) (law : Law) (rules : LawRules team law) (past : List Step
       no_start (Event.Packet (Err fault)) none = absurd none
       no_start (Event.Packet (Ok d)) got = let act = got.receipt.received in rw act refl
       no_start (Event.Reference lo hi) got = let act = got.0 in rw act refl
+      no_start (Event.Send order atom payload) act = rw act refl
 
       mailed : IsMailed (here_with (moment_of team s.h e p) (mail_of team s.h e p)) (state_of (here_with (moment_of team s.h e p) (mail_of team s.h e p)) (written team past) (run_of p)).written
       mailed d is =
@@ -320,8 +321,8 @@ module _ (team : Team) (law : Law) (rules : LawRules team law) (past : List Step
       go who p true e runs = subst (λ i. law.Running (s ∷ past) (written team (s ∷ past)) i p) (equal_numbers s.who who e) (end.own p runs)
       go who p false e runs = end.others who p (λ same. let t : nat_eq s.who who ≡ true = rw same (same_number who) in cc) runs
 
--- A law on groups holds of every schedule that a replay takes.
-pub law_holds : (team : Team) (law : Law) → LawRules team law → (past : List Step) → IsSound team → IsReplayable team past → Kept team law past
+-- A law on groups holds of every admissible schedule.
+pub law_holds : (team : Team) (law : Law) → LawRules team law → (past : List Step) → IsSound team → Admissible team past → Kept team law past
 law_holds team law rules [] sound ok = record { history = rules.nothing; running = λ who p e. absurd (cc) }
 law_holds team law rules (s ∷ past) sound ok = advanced team law rules past s sound ok (law_holds team law rules past sound (earlier team past s ok))
 

@@ -11,13 +11,14 @@ use Rattle.tw_types.specs.Process.{Process, started}
 use Rattle.tw_types.specs.Reports.{kind_of}
 use Rattle.tw_machine.specs.History.{Promised, life, promise_item}
 use Rattle.tw_machine.specs.Standing.{member_of}
-use Rattle.tw_machine.specs.World.{world, IsReplayable}
+use Rattle.tw_machine.specs.World.{world, Admissible}
 use Rattle.safety_laws.specs.Effects.{Written, State, Here, Change}
 use Rattle.safety_laws.specs.Laws.{Holds, In}
 use Rattle.safety_laws.specs.Names.{promise_name, IsNamed, IsOfLife, Present, Earlier, IsOwn, AreNamed}
 use Rattle.safety_laws.specs.Promises.{OfPromises, OfPromiser, of_promises}
 use Rattle.safety_laws.specs.Still.{SaysTheSame, StandsStill, still}
 use Rattle.safety_laws.proofs.Induction.{start_by}
+use Rattle.safety_laws.proofs.Held.{may_take}
 use Rattle.safety_laws.proofs.Lists.{of_each, each_from, each_weaker}
 use Rattle.safety_laws.proofs.Names as names
 use Rattle.safety_laws.proofs.Stack.{Stepping, RulesOver}
@@ -39,7 +40,7 @@ promised_still team steps w who p q known mine same high =
     each_from (λ (x : Promised). x.promise.report.member ≡ member_of q.identity → (or_none (view_decision q.belief)).group < x.promise.number → SaysTheSame q x) w.promises
     (λ z i member low. absurd (let below = own_below team steps w who p known mine z i (member ∙ ap member_of same) in omega arith))
 
-begins : (team : Team) (past : List Step) (s : Step) (w : Written) (mode : Mode) → IsReplayable team (s ∷ past) → s.act ≡ start_by mode → life s.who (s ∷ past) ≡ suc (life s.who past) → AreNamed past w → StandsStill w (started s.who mode s.h)
+begins : (team : Team) (past : List Step) (s : Step) (w : Written) (mode : Mode) → Admissible team (s ∷ past) → s.act ≡ start_by mode → life s.who (s ∷ past) ≡ suc (life s.who past) → AreNamed past w → StandsStill w (started s.who mode s.h)
 begins team past s w mode ok act more k =
     each_from (λ (x : Promised). x.promise.report.member ≡ member_of (started s.who mode s.h).identity → (or_none (view_decision (started s.who mode s.h).belief)).group < x.promise.number → SaysTheSame (started s.who mode s.h) x) w.promises
     (λ z i member low. absurd (none z i member))
@@ -86,7 +87,7 @@ changes team past s here x y at change before k = go change
     go (Change.Raise c) = same_lists (ap (λ (w : Written). w.promises) c.written) (same_record x.written x.process y.process (ap (λ (p : Process). p.identity) c.process) (ap (λ (p : Process). p.belief) c.process) (ap (λ (p : Process). log_length p.log) c.process) k.own)
     go (Change.Take c) =
         let group : (or_none (view_decision y.process.belief)).group ≡ c.taken_decision.group = ap (λ (p : Process). (or_none (view_decision p.belief)).group) c.process in
-        same_lists (ap (λ (w : Written). w.promises) c.written) (promised_still team (s ∷ past) x.written s.who x.process y.process before.history before.own (ap (λ (p : Process). p.identity) c.process) (let promised = c.promised in omega arith))
+        same_lists (ap (λ (w : Written). w.promises) c.written) (promised_still team (s ∷ past) x.written s.who x.process y.process before.history before.own (ap (λ (p : Process). p.identity) c.process) (let promised = (may_take here x c.taken_decision c.source before.own.held).promised in omega arith))
     go (Change.Make c) =
         let group : (or_none (view_decision y.process.belief)).group ≡ c.making.decision.group = ap (λ (p : Process). (or_none (view_decision p.belief)).group) c.process in
         same_lists (ap (λ (w : Written). w.promises) c.written) (promised_still team (s ∷ past) x.written s.who x.process y.process before.history before.own (ap (λ (p : Process). p.identity) c.process) (let promised = c.group in omega arith))

@@ -255,6 +255,7 @@ learnt_well team past s (Event.Packet (Ok d)) t small may sent brings k =
     let was : WasSent team.ppm past brings.dispatch = at_number (WasSent team.ppm past) (world team past).sent brings.receipt.number brings.dispatch sent brings.receipt.sent in
     subst (λ (x : Datagram). LearntWell team past s (learn_packet team s.h (admitted team.n s.who (Ok x)) t)) (sym brings.is) (packet_well team past s brings.dispatch t small may brings.to was k)
 learnt_well team past s (Event.Reference lo hi) t small may sent brings k = reference_well team past s (record { lo = lo; hi = hi }) t small may brings.1 k
+learnt_well team past s (Event.Send order atom payload) t small may sent brings k = record { timing = timed_still team past s s.who t k; not_disjoint = λ e. cc }
 
 -- a reading keeps the invariant
 pub read_still : (team : Team) (past : List Step) (s : Step) (t : Timing) → MayRead team.ppm s.who (s ∷ past) s.t s.h → TimingInvariant team (s ∷ past) s.who t → TimingInvariant team (s ∷ past) s.who (read team s.h t)

@@ -14,17 +14,20 @@ use Rattle.tw_types.specs.declared.datagram.Body.{Body}
 use Rattle.tw_types.specs.declared.datagram.Body.TheVariants as bodies
 use Rattle.tw_types.specs.declared.datagram.Datagram.{Datagram}
 use Rattle.tw_types.specs.declared.message.Kept.{Kept}
+use Rattle.tw_types.specs.declared.message.Order.{Order}
+use Rattle.tw_types.specs.declared.message.Atom.{Atom}
+use Rattle.tw_types.specs.declared.datagram.Want.{Want}
 use Rattle.tw_types.specs.declared.message.Decision.{Decision}
 use Rattle.tw_types.specs.declared.message.Member.{Member}
 use Rattle.tw_types.specs.declared.outputs.Mode.{Mode}
 use Rattle.tw_types.specs.declared.outputs.Mode.TheVariants as modes
 use Rattle.tw_types.specs.declared.step.Step.{Step}
 use Rattle.tw_types.specs.Ballots.{joined, wants, is_over}
-use Rattle.tw_types.specs.Beliefs.{Log, is_informed, last_of}
+use Rattle.tw_types.specs.Beliefs.{Log, is_informed, last_of, view_decision}
 use Rattle.tw_types.specs.Elections.{why_begun, own_promise}
-use Rattle.tw_types.specs.Waiting.{payloads_of}
+use Rattle.tw_types.specs.Waiting.{Held, payloads_of, Putting, Filled, Stored, putting, with_payload}
 use Rattle.tw_types.specs.Groups.{NoGroup, group_made, first_decision, objections, first_objection}
-use Rattle.tw_types.specs.Process.{Process, started, ToGroup}
+use Rattle.tw_types.specs.Process.{Process, started, ToTake, ToGroup, Hold}
 use Rattle.tw_types.specs.Refusals.{first_refusal}
 use Rattle.tw_types.specs.Taking.{is_barred}
 use Rattle.tw_types.specs.Turns.{is_turn, next_decision}
@@ -35,18 +38,20 @@ use Rattle.tw_machine.specs.Deciding.{has_turn, entries_to_add, turn_taken, take
 use Rattle.tw_machine.specs.Duties.{timed_duties, duties_if_timed, duties}
 use Rattle.tw_machine.specs.Electing.{answer_tests, election_answered, answer_election, ballot_dropped, has_spent_ballot, drop_ballot, holds_election, election_begun, begin_election}
 use Rattle.tw_machine.specs.Event.{Event}
-use Rattle.tw_machine.specs.Entering.{decision_held}
+use Rattle.tw_machine.specs.Entering.{decision_held, enter_decision}
+use Rattle.tw_machine.specs.Updating.{is_stale, use_if_whole, update_kept, update_put, received_as, take_update, answer_ask}
+use Rattle.tw_machine.specs.Proposing.{own_update, seq_given, update_sent, propose}
 use Rattle.tw_machine.specs.Grouping.{promise_added, take_promise, make_group}
 use Rattle.tw_machine.specs.History.{Promised, life}
 use Rattle.tw_machine.specs.Rules.{kind_rule, rule}
 use Rattle.tw_machine.specs.Run.{Run, Ruled, done, dropped}
 use Rattle.tw_machine.specs.Sending.{sent_to_others}
 use Rattle.tw_machine.specs.Standing.{member_of, last_decision, report_by, promise_by}
-use Rattle.tw_machine.specs.Step.{learnt_by, moment_of, read_by, ruled_by, has_duties, ended_by, step, looked}
+use Rattle.tw_machine.specs.Step.{learnt_by, moment_of, read_by, event_rule, ruled_by, has_duties, ended_by, step, looked}
 use Rattle.tw_machine.specs.Taking.{decision_tests, take_decision}
-use Rattle.tw_machine.specs.World.{Deed, deed_in, world, IsReplayable}
-use Rattle.tw_machine.proofs.Ends.{by_taking, by_group, by_asking}
-use Rattle.safety_laws.specs.Effects.{written}
+use Rattle.tw_machine.specs.World.{Deed, deed_in, world, Admissible}
+use Rattle.tw_machine.proofs.Ends.{by_entering, by_group, by_asking, by_using, by_kept, by_putting, by_answering, by_proposing, by_event}
+use Rattle.safety_laws.specs.Effects.{written, held_decision}
 use Rattle.safety_laws.specs.Groups.{OfGroups, OfMember}
 use Rattle.safety_laws.specs.Under.{HadPromised, IsUnder}
 use Rattle.safety_laws.proofs.Effects.{none_present}
@@ -55,10 +60,12 @@ use Rattle.safety_laws.proofs.Induction.{earlier, Turn, turn}
 use Rattle.safety_laws.proofs.Lists.{of_each}
 use Rattle.safety_laws.proofs.MadeLists.{own_group}
 
--- the last decision and the ballot of a process are of numbers not above the one that it promised last
+-- The last decision and the ballot of a process are of numbers not above the one that it promised last, and one that it holds to be taken is
+-- of the number that was promised when it was held.
 record IsLow (p : Process) : Type 0 where
   last : (d : Decision) → last_decision p ≡ Some d → d.group ≤ p.vote.promised
   ballot : (b : Ballot) → p.ballot ≡ Some b → b.number ≤ p.vote.promised
+  held : (d : Decision) (hold : Hold) → held_decision p ≡ Some d → p.hold ≡ Some hold → hold.purpose ≡ ToTake → d.group ≡ hold.promised
 
 -- a last decision that a process comes to have, from p on, is of the group that p promised
 abbrev ComesUnder : Process → Process → Type 0
@@ -80,17 +87,64 @@ unbarred : (informed : Bool) (promised group : ℕ) → is_barred informed promi
 unbarred true promised group free is = grind (arith, nat_tests)
 unbarred false promised group free is = absurd (cc)
 
-decision_since : (now : Moment) (d : Decision) (r : Run) → IsLow r.process → Since r.process (take_decision now d r).run.process
-decision_since now d r low = by_taking now d r (λ k. Since r.process k.run.process)
-    (λ free fits whole. record {
-      last = λ x is. let it : d ≡ x = cc in inr (subst (λ (z : Decision). z.group ≡ r.process.vote.promised) it (group free));
+-- a decision of the promised group that enters the list, or is held
+enter_since : (now : Moment) (d : Decision) (r : Run) → IsLow r.process → d.group ≡ r.process.vote.promised → Since r.process (enter_decision now d r).run.process
+enter_since now d r low group = by_entering now d r (λ k. Since r.process k.run.process)
+    (λ fits whole. record {
+      last = λ x is. let it : d ≡ x = cc in inr (subst (λ (z : Decision). z.group ≡ r.process.vote.promised) it group);
       promised = omega arith;
       ballot = low.ballot;
     })
-    (λ id. record { last = λ x is. inl is; promised = omega arith; ballot = low.ballot }) (λ reason e. same r.process low) (λ reason e. same r.process low)
+    (λ id. record { last = λ x is. inl is; promised = omega arith; ballot = low.ballot }) (λ reason e. same r.process low)
+
+decision_since : (now : Moment) (d : Decision) (r : Run) → IsLow r.process → Since r.process (take_decision now d r).run.process
+decision_since now d r low = go (first_refusal (decision_tests r.process d)) refl
   where
     group : first_refusal (decision_tests r.process d) ≡ None → d.group ≡ r.process.vote.promised
     group e = let pass = none_present (decision_tests r.process d) e in unbarred (is_informed r.process.belief) r.process.vote.promised d.group pass.1.1.0 pass.1.1.1.0
+
+    go : (o : Option Reason) → first_refusal (decision_tests r.process d) ≡ o → Since r.process (elim o as (λ o. Ruled) [ None ↦ enter_decision now d r | Some reason ↦ dropped reason r ]).run.process
+    go None free = enter_since now d r low (group free)
+    go (Some reason) e = same r.process low
+
+-- a held decision that is tried again is of the promised group
+use_since : (now : Moment) (r : Run) → IsLow r.process → Since r.process (use_if_whole now r).process
+use_since now r low = by_using now r (λ z. Since r.process z.process) (same r.process low) (record { last = λ d is. inl is; promised = omega arith; ballot = low.ballot })
+    (λ h hold is held purpose fresh. enter_since now h.decision r low (low.held h.decision hold (ap (option_map (λ (z : Held). z.decision)) is) held purpose ∙ unpromised h.decision hold fresh))
+  where
+    unpromised : (d : Decision) (hold : Hold) → is_stale hold d r.process ≡ false → hold.promised ≡ r.process.vote.promised
+    unpromised d hold fresh = grind (arith, nat_tests)
+
+filled_since : (now : Moment) (k : Kept) (r : Run) → IsLow r.process → Since r.process (use_if_whole now (update_kept Filled k r)).process
+filled_since now k r low = on (use_since now (update_kept Filled k r) (record { last = low.last; ballot = low.ballot; held = λ d hold is. low.held d hold (sym (still r.process.waiting.held) ∙ is) }))
+  where
+    still : (o : Option Held) → option_map (λ (z : Held). z.decision) (option_map (with_payload k) o) ≡ option_map (λ (z : Held). z.decision) o
+    still None = refl
+    still (Some h) = refl
+
+    on : Since (update_kept Filled k r).process (use_if_whole now (update_kept Filled k r)).process → Since r.process (use_if_whole now (update_kept Filled k r)).process
+    on z = record { last = z.last; promised = z.promised; ballot = z.ballot }
+
+stored_since : (k : Kept) (r : Run) → IsLow r.process → Since r.process (update_kept Stored k r).process
+stored_since k r low = record { last = λ d is. inl is; promised = omega arith; ballot = low.ballot }
+
+update_since : (now : Moment) (k : Kept) (r : Run) → IsLow r.process → Since r.process (take_update now k r).run.process
+update_since now k r low = by_putting now (received_as r.process k) k r (λ z. Since r.process z.run.process) (filled_since now k r low) (stored_since k r low) (λ reason other. same r.process low)
+
+question_since : (now : Moment) (from : ℕ) (want : Want) (r : Run) → IsLow r.process → Since r.process (answer_ask now from want r).run.process
+question_since now from want r low = by_answering now from want r (λ z. Since r.process z.run.process) (λ k. same r.process low) (same r.process low)
+
+put_since : (now : Moment) (p : Putting) (k : Kept) (r : Run) → IsLow r.process → Since r.process (update_put now p k r).process
+put_since now p k r low = by_kept now p k r (λ z. Since r.process z.process) (same r.process low) (stored_since k r low) (filled_since now k r low)
+
+sent_since : (team : Team) (now : Moment) (k : Kept) (r : Run) → IsLow r.process → Since r.process (update_sent team now k r).process
+sent_since team now k r low =
+    let z = put_since now (putting (view_decision r.process.belief) k r.process.waiting) k (seq_given k.entry.id.seq r) (record { last = low.last; ballot = low.ballot; held = low.held }) in
+    record { last = z.last; promised = z.promised; ballot = z.ballot }
+
+propose_since : (team : Team) (now : Moment) (order : Order) (atom : Atom) (payload : List ℕ) (r : Run) → IsLow r.process → Since r.process (propose team now order atom payload r).run.process
+propose_since team now order atom payload r low = by_proposing team now order atom payload r (λ z. Since r.process z.run.process)
+    (λ free. sent_since team now (own_update now order atom payload r.process) r low) (λ why e. same r.process low)
 
 -- a promise is above what was promised before
 answer_since : (team : Team) (now : Moment) (from number : ℕ) (why : Why) (t : ℕ) (r : Run) → IsLow r.process → Since r.process (answer_election team now from number why t r).run.process
@@ -125,12 +179,12 @@ timely_since team now head rule r low each = go (timely_reading (rate_of team no
 
 kind_since : (team : Team) (now : Moment) (head : Head) (body : Body) (r : Run) → IsLow r.process → Since r.process (kind_rule team now head body r).run.process
 unfolding kind_rule
-kind_since team now head (bodies.Update kept) r low = same r.process low
+kind_since team now head (bodies.Update kept) r low = update_since now kept r low
 kind_since team now head (bodies.Decision d) r low = timely_since team now head (λ t. take_decision now d) r low (λ t. decision_since now d r low)
 kind_since team now head (bodies.NoDecision number group turn skip reports best) r low = same r.process low
 kind_since team now head (bodies.Election number why) r low = timely_since team now head (answer_election team now head.from number why) r low (λ t. answer_since team now head.from number why t r low)
 kind_since team now head (bodies.Promise number report d) r low = timely_since team now head (λ t. take_promise (record { number = number; report = report; decision = d })) r low (λ t. promise_since (record { number = number; report = report; decision = d }) r low)
-kind_since team now head (bodies.Ask want) r low = same r.process low
+kind_since team now head (bodies.Ask want) r low = question_since now head.from want r low
 kind_since team now head (bodies.State group position total offset bytes) r low = same r.process low
 kind_since team now head (bodies.Sync ready) r low = same r.process low
 
@@ -138,6 +192,9 @@ rule_since : (team : Team) (now : Moment) (packet : Result (Option Datagram) Rea
 rule_since team now (Err reason) r low = same r.process low
 rule_since team now (Ok None) r low = same r.process low
 rule_since team now (Ok (Some d)) r low = kind_since team now d.head d.body r low
+
+own_since : (team : Team) (now : Moment) (e : Event) (packet : Result (Option Datagram) Reason) (r : Run) → IsLow r.process → Since r.process (event_rule team now e packet r).run.process
+own_since team now e packet r low = by_event team now e packet r (λ z. Since r.process z.run.process) (rule_since team now packet r low) (λ order atom payload. propose_since team now order atom payload r low)
 
 -- ---- the duties
 
@@ -222,7 +279,7 @@ group_under team now t p r k = by_group team now t r (λ s. ComesUnder p s.proce
     let more = k.since.promised in
     let group : d.group ≡ p.vote.promised = omega arith in
     inr (subst (λ (z : Decision). z.group ≡ p.vote.promised) it group))
-    (λ best source id. same_belief p r.process (decision_held now ToGroup best source id r).process refl k.since.last)
+    (λ ballot best id is e. same_belief p r.process (decision_held now ToGroup best ballot.best_from id r).process refl k.since.last)
 
 election_belief : (team : Team) (now : Moment) (t : ℕ) (r : Run) → (begin_election team now t r).process.belief ≡ r.process.belief
 election_belief team now t r = go (holds_election team now t r.process)
@@ -288,7 +345,7 @@ ended_under team h e p low = go (has_duties e)
     -- what is learnt of time changes nothing of this
     since : Since p (ruled_by team h e p).run.process
     since =
-        let k : Since (read_by team h e p).process (ruled_by team h e p).run.process = rule_since team (moment_of team h e p) (learnt_by team h e p).packet (read_by team h e p) (record { last = low.last; ballot = low.ballot }) in
+        let k : Since (read_by team h e p).process (ruled_by team h e p).run.process = own_since team (moment_of team h e p) e (learnt_by team h e p).packet (read_by team h e p) (record { last = low.last; ballot = low.ballot; held = low.held }) in
         record { last = k.last; promised = k.promised; ballot = k.ballot }
 
     go : (b : Bool) → ComesUnder p (cond b (duties team now ruled) ruled).process
@@ -310,6 +367,7 @@ is_low team past who p known mine = record {
       let low = of_each (λ (v : Promised). v.who ≡ who → v.life ≡ life who past → v.promise.number ≤ p.vote.promised) (written team past).promises x.0 mine.promiser.latest.greatest x.1 x.2 x.3 in
       let number = x.4 in
       omega arith;
+  held = λ d hold is held purpose. (mine.promiser.held d hold is held purpose).promised;
 }
 
 started_alone : (who : ℕ) (mode : Mode) (h : ℕ) (d : Decision) → last_decision (started who mode h) ≢ Some d
@@ -323,7 +381,7 @@ had o p q d runs k is = subst (λ (o : Option Process). HadPromised o d) (sym ru
     go other (inl before) = absurd (other before)
     go other (inr group) = group
 
-pub under : (team : Team) (past : List Step) (s : Step) → IsSound team → IsReplayable team (s ∷ past) → IsUnder team past s
+pub under : (team : Team) (past : List Step) (s : Step) → IsSound team → Admissible team (s ∷ past) → IsUnder team past s
 under team past s sound ok = go (turn team past s ok)
   where
     -- what runs after the step, by what the step comes to

@@ -22,9 +22,10 @@ use Rattle.tw_types.specs.Promises.{is_quarantined, is_in_window}
 use Rattle.tw_types.specs.Slots.{owner}
 use Rattle.tw_types.specs.Turns.{is_turn, next_decision}
 use Rattle.tw_types.specs.Refusals.{first_refusal}
-use Rattle.tw_types.specs.Waiting.{payloads_of}
+use Rattle.tw_types.specs.Waiting.{Held, payloads_of}
 use Rattle.tw_types.specs.Logs.{list_tests, first_missing}
-use Rattle.tw_types.specs.Process.{Process}
+use Rattle.tw_types.specs.Process.{Process, ToTake, ToGroup}
+use Rattle.tw_types.specs.Process as records
 use Rattle.tw_machine.specs.Dispatches.{Dispatch, sent_at}
 use Rattle.tw_machine.specs.History.{Promised, Up, promise_item, make_item, up_at, promises_on, makes_on, makes_by, up_by, history}
 use Rattle.tw_machine.specs.History as items
@@ -97,12 +98,12 @@ NotBelow None after = Unit {0}
 NotBelow (Some before) None = ⊥
 NotBelow (Some before) (Some after) = before ≤ after
 
--- a datagram's body says what its sender has: its newest promise, or its last decision; a sign of life, an election and a question say nothing
+-- a datagram's body says what its sender has: its newest promise, or its last decision; the others say nothing of promises and decisions
 abbrev pub Says : Here → State → Body → Type 0
 Says here x (bodies.Promise number report decision) =
     (older : List Promised) × (x.written.promises ≡ promise_item here.life here.step (record { number = number; report = report; decision = decision }) ∷ older)
 Says here x (bodies.Decision d) = last_decision x.process ≡ Some d
-Says here x (bodies.Update kept) = ⊥
+Says here x (bodies.Update kept) = Unit {0}
 Says here x (bodies.NoDecision number group turn skip reports best) = ⊥
 Says here x (bodies.Election number why) = Unit {0}
 Says here x (bodies.Ask want) = Unit {0}
@@ -115,8 +116,35 @@ pub record IsToldBy (here : Here) (x : State) (d : ℕ × Datagram) : Type 0 whe
   pub incarnation : d.1.head.incarnation ≡ x.process.identity.incarnation
   pub says : Says here x d.1.body
 
+-- ---- what waits
+
+-- the decision that a process holds, if any
+abbrev pub held_decision : Process → Option Decision
+held_decision p = option_map (λ (h : Held). h.decision) p.waiting.held
+
+-- What a process asks of a decision that it takes: it is above the one that it took or follows, names it, and is of the group that it
+-- promised.
+pub record MayTake (p : Process) (d : Decision) : Type 0 where
+  pub newer : is_older (or_none (view_decision p.belief)).group (or_none (view_decision p.belief)).turn d.group d.turn ≡ true
+  pub seat : has_seat (member_of p.identity) d ≡ true
+  pub promised : d.group ≡ p.vote.promised
+
+-- Whence a process has a decision that it takes: it comes, and meets what is asked; or it was held for that, and nothing was promised since.
+pub data Source (here : Here) (x : State) (d : Decision) : Type 0 where
+  Comes : (head : Head) → here.mail ≡ Some (record { head = head; body = bodies.Decision d }) → MayTake x.process d → Source here x d
+  WasHeld : (hold : records.Hold) → held_decision x.process ≡ Some d → x.process.hold ≡ Some hold → hold.purpose ≡ ToTake → hold.promised ≡ x.process.vote.promised → Source here x d
+
+-- What becomes of a held decision: it stays, or goes, or another one is held, for this or that.
+pub data Holding (here : Here) (x y : State) : Type 0 where
+  Stays : held_decision y.process ≡ held_decision x.process → y.process.hold ≡ x.process.hold → Holding here x y
+  Goes : held_decision y.process ≡ None → Holding here x y
+  ForTaking : (d : Decision) → Source here x d → held_decision y.process ≡ Some d → y.process.hold ≡ Some (record { purpose = ToTake; promised = x.process.vote.promised }) → Holding here x y
+  ForGroup : (ballot : Ballot) → (best : Decision) → x.process.ballot ≡ Some ballot → ballot.best ≡ Some best
+      → held_decision y.process ≡ Some best → y.process.hold ≡ Some (record { purpose = ToGroup; promised = x.process.vote.promised }) → Holding here x y
+
 -- Nothing of a vote, a ballot or a belief changes, nor where the list begins and ends, and nothing is promised or made. The clock may have
--- been read, datagrams sent, and what waits at the process may be another.
+-- been read, datagrams sent, and what waits at the process may be another: then a held decision is one that was received or held before, or
+-- the ballot's best.
 pub record Keeps (here : Here) (x y : State) : Type 0 where
   pub identity : y.process.identity ≡ x.process.identity
   pub vote : y.process.vote ≡ x.process.vote
@@ -125,6 +153,7 @@ pub record Keeps (here : Here) (x y : State) : Type 0 where
   pub base : y.process.log.base ≡ x.process.log.base
   pub length : log_length y.process.log ≡ log_length x.process.log
   pub greatest : NotBelow x.process.timing.clock.greatest y.process.timing.clock.greatest
+  pub held : Holding here x y
   pub promises : y.written.promises ≡ x.written.promises
   pub makes : y.written.makes ≡ x.written.makes
   pub ups : y.written.ups ≡ x.written.ups
@@ -161,15 +190,11 @@ pub record Ballots (here : Here) (x y : State) : Type 0 where
   pub written : y.written ≡ x.written
   pub reason : BallotReason here x y
 
--- A received decision is taken: it is above what the process took or followed, names it, and is of the group that it promised; and its
--- list goes on that of the process, where no payload is missing for that.
+-- A decision is taken that was received, or held to be taken; and its list goes on that of the process, where no payload is missing for
+-- that.
 pub record Takes (here : Here) (x y : State) : Type 0 where
   pub taken_decision : Decision
-  pub head : Head
-  pub received : here.mail ≡ Some (record { head = head; body = bodies.Decision taken_decision })
-  pub newer : is_older (or_none (view_decision x.process.belief)).group (or_none (view_decision x.process.belief)).turn taken_decision.group taken_decision.turn ≡ true
-  pub seat : has_seat (member_of x.process.identity) taken_decision ≡ true
-  pub promised : taken_decision.group ≡ x.process.vote.promised
+  pub source : Source here x taken_decision
   pub fits : first_refusal (list_tests x.process.log taken_decision) ≡ None
   pub whole : first_missing x.process.log (payloads_of x.process.waiting) taken_decision ≡ None
   pub process : y.process ≡ entered taken_decision x.process

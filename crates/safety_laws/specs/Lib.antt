@@ -1,6 +1,7 @@
 pub mod Readings
 pub mod Clocks
 pub mod Effects
+pub mod Held
 pub mod Laws
 pub mod Names
 pub mod NotAhead

@@ -21,7 +21,7 @@ use Rattle.tw_types.specs.Turns.{supported}
 use Rattle.tw_machine.specs.Dispatches.{Dispatch}
 use Rattle.tw_machine.specs.History.{Promised, Make, life}
 use Rattle.tw_machine.specs.Standing.{member_of, last_decision}
-use Rattle.safety_laws.specs.Effects.{Written}
+use Rattle.safety_laws.specs.Effects.{Written, held_decision}
 use Rattle.safety_laws.specs.Full.{is_full}
 use Rattle.safety_laws.specs.Laws.{Law, In}
 
@@ -59,7 +59,7 @@ pub record TellsDecision (makes : List Make) (x : Promised) : Type 0 where
 
 -- ---- what is kept or carried was made
 
--- the decisions that a process keeps: the one that it took or follows, and its ballot's best
+-- the decisions that a process keeps: the one that it took or follows, its ballot's best, and the one that it holds
 abbrev pub best_of : Option Ballot → Option Decision
 best_of None = None
 best_of (Some b) = b.best
@@ -67,6 +67,7 @@ best_of (Some b) = b.best
 pub record KeepsMade (makes : List Make) (p : Process) : Type 0 where
   pub view : WasMadeIfAny makes (view_decision p.belief)
   pub best : WasMadeIfAny makes (best_of p.ballot)
+  pub held : WasMadeIfAny makes (held_decision p)
 
 -- the decision that a body carries
 abbrev pub carried : Body → Option Decision

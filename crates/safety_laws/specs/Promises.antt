@@ -1,4 +1,4 @@
--- All that is known of promises, in one law for the laws that follow.
+-- All that is known of promises, and of what is held under them, in one law for the laws that follow.
 use Rattle.std.specs.Prelude.{ℕ, List}
 use Rattle.std.specs.List.{AllByRecursion}
 use Rattle.tw_types.specs.declared.team.Team.{Team}
@@ -7,6 +7,7 @@ use Rattle.tw_types.specs.Process.{Process}
 use Rattle.tw_machine.specs.Dispatches.{Dispatch}
 use Rattle.safety_laws.specs.Ascend.{Ascends}
 use Rattle.safety_laws.specs.Effects.{Written}
+use Rattle.safety_laws.specs.Held.{HoldsWell}
 use Rattle.safety_laws.specs.Latest.{IsLatest}
 use Rattle.safety_laws.specs.Laws.{Law}
 use Rattle.safety_laws.specs.Mail.{TellsGiven}
@@ -27,6 +28,7 @@ pub record OfPromiser (steps : List Step) (w : Written) (who : ℕ) (p : Process
   pub own : IsOwn steps w who p
   pub behind : AreBehind steps w who p
   pub latest : IsLatest steps w who p
+  pub held : HoldsWell p
 
 -- the laws on promises
 abbrev pub of_promises : Team → Law

@@ -12,7 +12,7 @@ ghost use Rattle.tw_types.specs.declared.row.RowAnswer.{RowAnswer};
 ghost use Rattle.tw_types.specs.declared.answer.Reason.{Reason};
 ghost use Rattle.tw_types.specs.Row.{Row};
 ghost use Rattle.tw_types.specs.Process.{Process};
-ghost use Rattle.tw_machine.specs.World.{world, Admissible, IsReplayable};
+ghost use Rattle.tw_machine.specs.World.{world, Admissible};
 ghost use Rattle.tw_machine.specs.Rows.{rows_of};
 ghost use Rattle.tw_machine.specs.Dispatches.{Dispatch};
 ghost use Rattle.tw_machine.specs.Hearing.{trip_bound, told};
@@ -26,24 +26,24 @@ ghost use Rattle.tw_machine.specs.ClockLaw.{ReadsWell};
 /// processes may crash and return.
 pub fn clocks_hold_team_time()
     ensures interval { (team : Team) (past : List Step) (s : Step) → IsSound team →
-        IsReplayable team (s ∷ past) →
+        Admissible team (s ∷ past) →
         IfSome ((world team (s ∷ past)).process_of s.who) (ClockHolds team.ppm s.t s.h) }
     ensures later { (team : Team) (past : List Step) (who t h : ℕ) → IsSound team →
-        IsReplayable team past → MayRead team.ppm who past t h →
+        Admissible team past → MayRead team.ppm who past t h →
         IfSome ((world team past).process_of who) (ClockHolds team.ppm t h) }
     ensures reading { (team : Team) (past : List Step) → IsSound team →
-        IsReplayable team past → ReadsWell team past }
+        Admissible team past → ReadsWell team past }
     ensures rows { (team : Team) (past : List Step) → IsSound team →
-        IsReplayable team past →
+        Admissible team past →
         EachReadsNear team.eps (reverse past) (rows_of team past) }
     ensures disjoint { (team : Team) (past : List Step) (who : ℕ) → IsSound team →
-        IsReplayable team past →
+        Admissible team past →
         IfSome ((world team past).process_of who) (λ (p : Process). p.timing.clock.disjoint ≡ None) }
     ensures not_dropped { (team : Team) (past : List Step) → IsSound team →
-        IsReplayable team past →
+        Admissible team past →
         AllByRecursion (λ (r : Row). r.answer ≢ RowAnswer.Dropped Reason.Disjoint) (rows_of team past) }
     ensures sent { (team : Team) (past : List Step) → IsSound team →
-        IsReplayable team past →
+        Admissible team past →
         AllByRecursion SentWell (world team past).sent }
 {}
 
@@ -55,21 +55,21 @@ pub fn bounds_cover_every_delay()
         Admissible team (s ∷ past) → s.act ≡ Act.Recv number →
         (d : Dispatch) × IsReceipt team past s d × (d.to ≡ s.who) }
     ensures before { (team : Team) (past : List Step) (s : Step) (d : Dispatch) → IsSound team →
-        IsReplayable team (s ∷ past) → IsReceipt team past s d → d.at ≤ s.t }
+        Admissible team (s ∷ past) → IsReceipt team past s d → d.at ≤ s.t }
     ensures echo { (team : Team) (past : List Step) (s : Step) (d : Dispatch) → IsSound team →
-        IsReplayable team (s ∷ past) → IsReceipt team past s d →
+        Admissible team (s ∷ past) → IsReceipt team past s d →
         IfSome (trip_bound team.ppm s.h d.datagram.head) (Covers s d) }
     ensures interval { (team : Team) (past : List Step) (s : Step) (d : Dispatch) → IsSound team →
-        IsReplayable team (s ∷ past) → IsReceipt team past s d →
+        Admissible team (s ∷ past) → IsReceipt team past s d →
         IfSome ((world team past).process_of s.who) (λ (p : Process).
         IfSome (interval_bound (own_interval team s d p) d.datagram.head.interval) (Covers s d)) }
     ensures rate { (team : Team) (past : List Step) (s : Step) (d : Dispatch) → IsSound team →
-        IsReplayable team (s ∷ past) → IsReceipt team past s d →
+        Admissible team (s ∷ past) → IsReceipt team past s d →
         IfSome ((world team past).process_of s.who) (λ (p : Process). IfRated (Covers s d) (rate_at team s d p)) }
     ensures timely { (team : Team) (past : List Step) (s : Step) (d : Dispatch) (bound : ℕ) → IsSound team →
-        IsReplayable team (s ∷ past) → IsReceipt team past s d →
+        Admissible team (s ∷ past) → IsReceipt team past s d →
         IfSome ((world team past).process_of s.who) (λ (p : Process). rate_at team s d p ≡ Timely bound → Covers s d team.delta) }
     ensures told { (team : Team) (past : List Step) (s : Step) (d : Dispatch) → IsSound team →
-        IsReplayable team (s ∷ past) → IsReceipt team past s d →
+        Admissible team (s ∷ past) → IsReceipt team past s d →
         IfSome (told team.ppm s.h d.datagram.head) (λ i. Holds i s.t) }
 {}

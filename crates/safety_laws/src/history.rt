@@ -11,7 +11,7 @@ ghost use Rattle.tw_machine.specs.Dispatches.{Dispatch};
 ghost use Rattle.tw_machine.specs.History.{Promised, Make, Up, history};
 ghost use Rattle.tw_machine.specs.Places.{Each, Exists};
 ghost use Rattle.tw_machine.specs.Rows.{rows_of};
-ghost use Rattle.tw_machine.specs.World.{world, IsReplayable};
+ghost use Rattle.tw_machine.specs.World.{world, Admissible};
 ghost use Rattle.safety_laws.specs.Laws.{In};
 ghost use Rattle.safety_laws.specs.Mail.{TellsGiven};
 ghost use Rattle.safety_laws.specs.Seen.{IsMadeLineOf, IsFlagOf, IsKeptPromise};
@@ -21,25 +21,25 @@ ghost use Rattle.safety_laws.specs.Seen.{IsMadeLineOf, IsFlagOf, IsKeptPromise};
 /// datagram tells stands there as its sender's.
 pub fn history_is_seen()
     ensures made_lines { (team : Team) (past : List Step) → IsSound team →
-        IsReplayable team past →
+        Admissible team past →
         Each (rows_of team past) (λ i r. r.made ≢ None →
         (k : Make) × In k (history team past).makes × IsMadeLineOf r k) }
     ensures makes { (team : Team) (past : List Step) (k : Make) → IsSound team →
-        IsReplayable team past → In k (history team past).makes →
+        Admissible team past → In k (history team past).makes →
         Exists (rows_of team past) (λ i r. IsMadeLineOf r k) }
     ensures flags { (team : Team) (past : List Step) → IsSound team →
-        IsReplayable team past →
+        Admissible team past →
         Each (rows_of team past) (λ i r. r.up ≡ true →
         (k : Up) × In k (history team past).ups × IsFlagOf r k) }
     ensures ups { (team : Team) (past : List Step) (k : Up) → IsSound team →
-        IsReplayable team past → In k (history team past).ups →
+        Admissible team past → In k (history team past).ups →
         Exists (rows_of team past) (λ i r. IsFlagOf r k) }
     ensures promised { (team : Team) (past : List Step) (who : ℕ) → IsSound team →
-        IsReplayable team past →
+        Admissible team past →
         IfSome ((world team past).process_of who) (λ (p : Process). 0 < p.vote.promised →
         (k : Promised) × In k (history team past).promises × IsKeptPromise past who p k) }
     ensures told { (team : Team) (past : List Step) → IsSound team →
-        IsReplayable team past →
+        Admissible team past →
         AllByRecursion (λ (k : Dispatch). TellsGiven (history team past).promises k.datagram.head.from k.datagram.body)
         (world team past).sent }
 {}

@@ -7,7 +7,7 @@ ghost use Rattle.tw_types.specs.declared.team.Team.{Team};
 ghost use Rattle.tw_types.specs.Team.{IsSound};
 ghost use Rattle.tw_types.specs.declared.step.Step.{Step};
 ghost use Rattle.tw_machine.specs.History.{history, Make, Up};
-ghost use Rattle.tw_machine.specs.World.{IsReplayable, world};
+ghost use Rattle.tw_machine.specs.World.{Admissible, world};
 ghost use Rattle.safety_laws.specs.Ascend.{Ascends};
 ghost use Rattle.safety_laws.specs.Outlived.{OutlivesAll};
 ghost use Rattle.safety_laws.specs.NotAhead.{IsNearPromise};
@@ -20,6 +20,7 @@ ghost use Rattle.tw_machine.specs.Rows.{rows_of};
 ghost use Rattle.tw_machine.specs.SafeRows.{SafeRows};
 ghost use Rattle.safety_laws.specs.Effects.{written};
 ghost use Rattle.safety_laws.specs.Groups.{HasMajority, StandsOn, BeginsAbove};
+ghost use Rattle.safety_laws.specs.Held.{HoldsWell};
 ghost use Rattle.safety_laws.specs.Laws.{In};
 ghost use Rattle.safety_laws.specs.Made.{AllArise, IsUnderPromise, KeepsMade, WasMade, WasMadeIfAny, IsBeginOf, BallotHolds, carried};
 ghost use Rattle.safety_laws.specs.Memory.{Remembers};
@@ -33,23 +34,26 @@ ghost use Rattle.safety_laws.specs.Under.{IsUnder};
 /// reading (`window`); and one of a later life reads behind the end of each lease that the process gave in an earlier one
 /// (`outlived`), since who lost its memory waits.
 pub fn promises_ascend()
-    ensures ascend { (team : Team) (past : List Step) → IsSound team → IsReplayable team past → Ascends (history team past).promises }
-    ensures near { (team : Team) (past : List Step) → IsSound team → IsReplayable team past →
+    ensures ascend { (team : Team) (past : List Step) → IsSound team → Admissible team past → Ascends (history team past).promises }
+    ensures near { (team : Team) (past : List Step) → IsSound team → Admissible team past →
         AllByRecursion (IsNearPromise team.eps) (history team past).promises }
-    ensures window { (team : Team) (past : List Step) → IsSound team → IsReplayable team past →
+    ensures window { (team : Team) (past : List Step) → IsSound team → Admissible team past →
         AllByRecursion (IsInWindow team) (history team past).promises }
-    ensures outlived { (team : Team) (past : List Step) → IsSound team → IsReplayable team past →
+    ensures outlived { (team : Team) (past : List Step) → IsSound team → Admissible team past →
         AllByRecursion (OutlivesAll team (history team past).makes) (history team past).promises }
 {}
 
 /// Decisions are of the promised group: a decision that a process has after a step, and hadn't before it, is of the group that it
-/// had promised last before that step (`under`); who made a decision had promised its group, in that life (`makes`); and no two
-/// makes are of one group and turn (`once`).
+/// had promised last before that step (`under`); one that it holds to be taken is of the group that it had promised when it was
+/// held, names it, and is above the last one (`held`); who made a decision had promised its group, in that life (`makes`); and no
+/// two makes are of one group and turn (`once`).
 pub fn decisions_are_promised()
-    ensures under { (team : Team) (past : List Step) (s : Step) → IsSound team → IsReplayable team (s ∷ past) → IsUnder team past s }
-    ensures makes { (team : Team) (past : List Step) → IsSound team → IsReplayable team past →
+    ensures under { (team : Team) (past : List Step) (s : Step) → IsSound team → Admissible team (s ∷ past) → IsUnder team past s }
+    ensures held { (team : Team) (past : List Step) (who : ℕ) → IsSound team → Admissible team past →
+        IfSome ((world team past).process_of who) HoldsWell }
+    ensures makes { (team : Team) (past : List Step) → IsSound team → Admissible team past →
         AllByRecursion (IsUnderPromise (history team past).promises) (history team past).makes }
-    ensures once { (team : Team) (past : List Step) → IsSound team → IsReplayable team past → AllOnce (history team past).makes }
+    ensures once { (team : Team) (past : List Step) → IsSound team → Admissible team past → AllOnce (history team past).makes }
 {}
 
 /// Reports are of promises: each report in a ballot was given by its process with its promise of the ballot's number, of each
@@ -58,18 +62,18 @@ pub fn decisions_are_promised()
 /// made, and has the start and the members of the first one of its group (`first`). Below its promise a process reports what it
 /// reported then, but for its support and its reading (`still`).
 pub fn reports_are_of_promises()
-    ensures ballots { (team : Team) (past : List Step) (who : ℕ) → IsSound team → IsReplayable team past →
+    ensures ballots { (team : Team) (past : List Step) (who : ℕ) → IsSound team → Admissible team past →
         IfSome ((world team past).process_of who) (λ (p : Process).
         (b : Ballot) → p.ballot ≡ Some b → BallotHolds team past (written team past) who p b) }
-    ensures arise { (team : Team) (past : List Step) → IsSound team → IsReplayable team past →
+    ensures arise { (team : Team) (past : List Step) → IsSound team → Admissible team past →
         AllArise team (history team past).promises (history team past).makes }
-    ensures kept { (team : Team) (past : List Step) (who : ℕ) → IsSound team → IsReplayable team past →
+    ensures kept { (team : Team) (past : List Step) (who : ℕ) → IsSound team → Admissible team past →
         IfSome ((world team past).process_of who) (KeepsMade (history team past).makes) }
-    ensures carried { (team : Team) (past : List Step) → IsSound team → IsReplayable team past →
+    ensures carried { (team : Team) (past : List Step) → IsSound team → Admissible team past →
         AllByRecursion (λ (k : Dispatch). WasMadeIfAny (history team past).makes (carried k.datagram.body)) (world team past).sent }
-    ensures first { (team : Team) (past : List Step) (d : Decision) → IsSound team → IsReplayable team past →
+    ensures first { (team : Team) (past : List Step) (d : Decision) → IsSound team → Admissible team past →
         WasMade (history team past).makes d → (k : Make) × In k (history team past).makes × IsBeginOf d k }
-    ensures still { (team : Team) (past : List Step) (who : ℕ) → IsSound team → IsReplayable team past →
+    ensures still { (team : Team) (past : List Step) (who : ℕ) → IsSound team → Admissible team past →
         IfSome ((world team past).process_of who) (StandsStill (written team past)) }
 {}
 
@@ -77,22 +81,22 @@ pub fn reports_are_of_promises()
 /// its reading and its length (`supports`); and until a process crashes its last support isn't below any that it gave, while one
 /// that lost its memory gave none in the life that it is in (`remembers`).
 pub fn supports_are_of_decisions()
-    ensures supports { (team : Team) (past : List Step) → IsSound team → IsReplayable team past → AllSupported (history team past).makes }
-    ensures remembers { (team : Team) (past : List Step) (who : ℕ) → IsSound team → IsReplayable team past →
+    ensures supports { (team : Team) (past : List Step) → IsSound team → Admissible team past → AllSupported (history team past).makes }
+    ensures remembers { (team : Team) (past : List Step) (who : ℕ) → IsSound team → Admissible team past →
         IfSome ((world team past).process_of who) (Remembers past (written team past) who) }
 {}
 
 /// Lost supports are of older groups: the last decision of an informed process isn't below any that it made, in this life or in an
 /// earlier one.
 pub fn lost_supports_are_older()
-    ensures above { (team : Team) (past : List Step) (who : ℕ) → IsSound team → IsReplayable team past →
+    ensures above { (team : Team) (past : List Step) (who : ℕ) → IsSound team → Admissible team past →
         IfSome ((world team past).process_of who) (IsAboveAll (written team past) who) }
 {}
 
 /// A majority binds later groups: a group above that of a decision with supports of a majority stands on a decision of that group or a
 /// greater one, whichever of the two was made first.
 pub fn majorities_bind_later_groups()
-    ensures binds { (team : Team) (past : List Step) (m later : Make) → IsSound team → IsReplayable team past →
+    ensures binds { (team : Team) (past : List Step) (m later : Make) → IsSound team → Admissible team past →
         In m (history team past).makes → In later (history team past).makes → HasMajority team m.making.decision →
         BeginsAbove m.making.decision.group later → StandsOn later m.making.decision.group }
 {}
@@ -100,12 +104,12 @@ pub fn majorities_bind_later_groups()
 /// Leases outlast older groups: where a process was up in a group, each made group above that one starts above its reading, whichever
 /// was first.
 pub fn leases_outlast_older_groups()
-    ensures outlast { (team : Team) (past : List Step) (u : Up) (later : Make) → IsSound team → IsReplayable team past →
+    ensures outlast { (team : Team) (past : List Step) (u : Up) (later : Make) → IsSound team → Admissible team past →
         In u (history team past).ups → In later (history team past).makes →
         BeginsAbove u.group later → u.reading < later.making.decision.start }
 {}
 
 /// The rows of each schedule are safe: one started group at a reading, leased support, and the five clauses on deliveries and tables.
 pub fn rows_are_safe()
-    ensures rows { (team : Team) (past : List Step) → IsSound team → IsReplayable team past → SafeRows team (rows_of team past) }
+    ensures rows { (team : Team) (past : List Step) → IsSound team → Admissible team past → SafeRows team (rows_of team past) }
 {}

@@ -15,7 +15,7 @@ use Rattle.tw_types.specs.declared.datagram.Body.{Body}
 use Rattle.tw_types.specs.declared.datagram.Body.TheVariants as bodies
 use Rattle.tw_types.specs.declared.datagram.Datagram.{Datagram}
 use Rattle.tw_types.specs.declared.datagram.Want.TheVariants as wants
-use Rattle.tw_types.specs.declared.answer.Answer.TheVariants.{Done, Dropped}
+use Rattle.tw_types.specs.declared.row.RowAnswer.TheVariants.{Done, Dropped}
 use Rattle.tw_types.specs.declared.answer.Reason.TheVariants as reasons
 use Rattle.tw_types.specs.declared.outputs.Mode.TheVariants.{First}
 use Rattle.tw_types.specs.Appending.{appended_list}

@@ -17,8 +17,8 @@ use Rattle.tw_types.specs.declared.datagram.Echo.{Echo}
 use Rattle.tw_types.specs.declared.datagram.Want.TheVariants as wants
 use Rattle.tw_types.specs.declared.datagram.Why.TheVariants as whys
 use Rattle.tw_types.specs.declared.datagram.WireFault.TheVariants as faults
-use Rattle.tw_types.specs.declared.answer.Answer.{Answer}
-use Rattle.tw_types.specs.declared.answer.Answer.TheVariants.{Done, Dropped}
+use Rattle.tw_types.specs.declared.row.RowAnswer.{RowAnswer}
+use Rattle.tw_types.specs.declared.row.RowAnswer.TheVariants.{Done, Dropped}
 use Rattle.tw_types.specs.declared.answer.Reason.{Reason}
 use Rattle.tw_types.specs.declared.answer.Reason.TheVariants as reasons
 use Rattle.tw_types.specs.declared.outputs.Mode.TheVariants.{First}
@@ -83,7 +83,7 @@ abbrev hears : ℕ → Process → Process
 hears from p = reads_at 713000 (record p { timing = record (p.timing) { heard = λ q. if from == q then Some (record { a = 712000; b = 713000 }) else None } })
 
 -- this answer, and nothing is given
-abbrev alone : Answer → Process → Outcome
+abbrev alone : RowAnswer → Process → Outcome
 alone answer p = record { process = p; answer = answer; out = nothing; promises = []; makings = [] }
 
 -- it is dropped before anything is noted of it
@@ -127,17 +127,9 @@ update = record { who = 1; incarnation = 699990; seq = 1 }
 abbrev entry : Entry
 entry = record { id = update; order = orders.Total; atom = atoms.Weak; stamp = 5; late = false }
 
-no_update : everyhow (bodies.Update (record { entry = entry; early = false; payload = record { items = [] } })) ≡ unknown
-unfolding step timed_duties duties
-no_update = refl
-
 no_round : everyhow (bodies.NoDecision 10 7 0 2 (record { items = [] }) (decision 7 0 699990)) ≡ unknown
 unfolding step timed_duties duties
 no_round = refl
-
-no_ask : everyhow (bodies.Ask (wants.Table 7)) ≡ unknown
-unfolding step timed_duties duties
-no_ask = refl
 
 no_state : everyhow (bodies.State 7 0 14 0 (record { items = [] })) ≡ unknown
 unfolding step timed_duties duties
@@ -165,6 +157,14 @@ forged_promise : forged (bodies.Promise 9 (report 1 kinds.Ready 0 5) None) ≡ s
 unfolding step timed_duties duties
 forged_promise = refl
 
+forged_update : forged (bodies.Update (record { entry = entry; early = false; payload = record { items = [] } })) ≡ strange
+unfolding step timed_duties duties
+forged_update = refl
+
+forged_question : forged (bodies.Ask (wants.Update update)) ≡ strange
+unfolding step timed_duties duties
+forged_question = refl
+
 forged_sign_of_life : forged (bodies.Sync None) ≡ strange
 unfolding step timed_duties duties
 forged_sign_of_life = refl
@@ -174,6 +174,11 @@ forged_sign_of_life = refl
 a_sign_of_life : receives member 1 0 (bodies.Sync (Some (7, 0, 0))) ≡ alone Done (hears 1 member)
 unfolding step kind_rule timed_duties duties
 a_sign_of_life = refl
+
+-- what nobody holds is asked for
+a_question : receives member 1 0 (bodies.Ask (wants.Table 7)) ≡ refused 1 reasons.NotHeld
+unfolding step kind_rule timed_duties duties
+a_question = refl
 
 -- an election of the number's owner, of another one, of a number that is promised, and of one who is stuck alone
 

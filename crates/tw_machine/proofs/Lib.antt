@@ -9,12 +9,15 @@ pub mod Ends
 pub mod Parts
 pub mod Exclusions
 pub mod Complete
+pub mod Causes
 pub mod Steps
 mod Worked
 mod GroupsWorked
 mod HistoryWorked
 mod Forged
 mod EntriesWorked
+mod SendsWorked
+mod SendsScheduled
 mod TimeEdges
 mod MayFollow
 mod Decided

@@ -1,5 +1,5 @@
 -- Which acts a line can spell, and which steps may follow, worked out by hand.
-use Rattle.std.proofs.Common.{◌≡◌, refl, ℕ, ◌^◌, ◌-◌, arith, true, false, [], ◌∷◌, Option, Some, None}
+use Rattle.std.proofs.Common.{◌≡◌, refl, ℕ, ◌^◌, ◌-◌, arith, [], ◌∷◌, Option, Some, None}
 use Rattle.tw_types.specs.declared.message.Order.TheVariants.{Total}
 use Rattle.tw_types.specs.declared.message.Atom.TheVariants.{Weak}
 use Rattle.tw_types.specs.declared.step.Act.{Act}
@@ -9,7 +9,6 @@ use Rattle.tw_types.specs.declared.step.Cause.{Cause}
 use Rattle.tw_types.specs.declared.step.Cause.TheVariants as causes
 use Rattle.tw_types.specs.Examples.{team_a}
 use Rattle.tw_machine.specs.Grammar.{IsAct}
-use Rattle.tw_machine.specs.Schedule.{is_built}
 use Rattle.tw_machine.specs.Admissible.{cause_of}
 
 -- ---- acts
@@ -34,12 +33,6 @@ last_byte = (omega arith, (omega arith, tt))
 
 no_byte : IsAct (Send Total Weak (record { items = 256 ∷ [] })) → ⊥
 no_byte act = omega (arith, act.1.0)
-
-taken : is_built (Recv 1) ≡ true
-taken = refl
-
-not_taken_yet : is_built (Send Total Weak (record { items = [] })) ≡ false
-not_taken_yet = refl
 
 -- ---- steps after a start of process 0 and a look at it
 

@@ -9,6 +9,11 @@ use Rattle.tw_types.specs.declared.datagram.Body.{Body}
 use Rattle.tw_types.specs.declared.datagram.Body.TheVariants as bodies
 use Rattle.tw_types.specs.declared.datagram.Datagram.{Datagram}
 use Rattle.tw_types.specs.declared.message.UpdateId.{UpdateId}
+use Rattle.tw_types.specs.declared.message.Order.{Order}
+use Rattle.tw_types.specs.declared.message.Atom.{Atom}
+use Rattle.tw_types.specs.declared.message.Kept.{Kept}
+use Rattle.tw_types.specs.declared.datagram.Want.{Want}
+use Rattle.tw_types.specs.declared.row.RowAnswer.{RowAnswer}
 use Rattle.tw_types.specs.declared.message.Decision.{Decision}
 use Rattle.tw_types.specs.declared.datagram.Why.{Why}
 use Rattle.tw_types.specs.declared.answer.Reason.{Reason}
@@ -18,13 +23,17 @@ use Rattle.tw_types.specs.Votes.{Promise, Making}
 use Rattle.tw_types.specs.Ballots.{wants}
 use Rattle.tw_types.specs.Elections.{why_begun, own_promise}
 use Rattle.tw_types.specs.Logs.{list_tests}
+use Rattle.tw_types.specs.Beliefs.{view_decision}
+use Rattle.tw_types.specs.Waiting.{Putting, Filled, putting}
 use Rattle.tw_types.specs.Process.{Process, Purpose, ToTake, ToGroup}
 use Rattle.tw_machine.specs.Event.{Event}
 use Rattle.tw_machine.specs.Run.{Run, Ruled, done, dropped}
 use Rattle.tw_machine.specs.Sending.{datagram_to, others, sent_to, sent_to_others}
 use Rattle.tw_machine.specs.Standing.{last_decision, report_by, promise_by}
 use Rattle.tw_machine.specs.Control.{rate_of, timely_reading, if_timely}
-use Rattle.tw_machine.specs.Entering.{decision_entered, held_for, decision_held}
+use Rattle.tw_machine.specs.Entering.{decision_entered, held_for, decision_held, enter_decision}
+use Rattle.tw_machine.specs.Updating.{use_if_whole, update_kept, update_put, received_as, take_update, answer_ask}
+use Rattle.tw_machine.specs.Proposing.{own_update, seq_given, update_sent, propose}
 use Rattle.tw_machine.specs.Taking.{decision_tests, take_decision}
 use Rattle.tw_machine.specs.Electing.{promised, answer_tests, election_answered, answer_election, ballot_dropped, has_spent_ballot, drop_ballot, holds_election, election_begun, begin_election}
 use Rattle.tw_machine.specs.Deciding.{making_kept, decision_made, has_turn, turn_taken, take_turn}
@@ -32,9 +41,9 @@ use Rattle.tw_machine.specs.Grouping.{promise_added, take_promise, group_begun, 
 use Rattle.tw_machine.specs.Beating.{is_due, beat_marked, is_repeated, repeat_decision, ask_again, beat_given, give_beat}
 use Rattle.tw_machine.specs.Rules.{kind_rule, rule}
 use Rattle.tw_machine.specs.Duties.{timed_duties, duties_if_timed, duties}
-use Rattle.tw_machine.specs.Step.{moment_of, read_by, ruled_by, has_duties, ended_by}
+use Rattle.tw_machine.specs.Step.{learnt_by, moment_of, read_by, answer_by, row_answer, event_rule, ruled_by, has_duties, ended_by}
 use Rattle.tw_machine.proofs.Tables.{all_joined, all_mapped, all_of}
-use Rattle.tw_machine.proofs.Ends.{by_taking, by_group, by_asking}
+use Rattle.tw_machine.proofs.Ends.{by_entering, by_taking, by_group, by_asking, by_using, by_kept, by_putting, by_answering, by_proposing, by_event}
 
 -- From one run to a later one of the same event: it is the same process, which knows the same of time; what is sent besides is
 -- told by its own head; and nothing is delivered.
@@ -132,7 +141,7 @@ group_on : (team : Team) (now : Moment) (t : ℕ) (r : Run) → GoesOn now r (ma
 group_on team now t r = by_group team now t r (GoesOn now r) (stays now r)
     (λ ballot d is full e. then_on now r (ballot_dropped r) (group_begun team now ballot d t r)
     (inner_on now r (ballot_dropped r) (record { identity = refl; timing = refl; sends = refl; passes = refl; earlies = refl })) (made_on team now _ t (ballot_dropped r)))
-    (λ best source id. held_on now ToGroup best source id r)
+    (λ ballot best id is e. held_on now ToGroup best ballot.best_from id r)
 
 election_on : (team : Team) (now : Moment) (t : ℕ) (r : Run) → GoesOn now r (begin_election team now t r)
 election_on team now t r = go (holds_election team now t r.process)
@@ -218,14 +227,45 @@ timely_on team now head rule r each = go (timely_reading (rate_of team now head)
     go (Err reason) = stays now r
     go (Ok t) = each t
 
+-- a change of what waits
+waits_on : (now : Moment) (r : Run) (q : Process) → q.identity ≡ r.process.identity → q.timing ≡ r.process.timing → GoesOn now r (record r { process = q })
+waits_on now r q identity timing = inner_on now r (record r { process = q }) (record { identity = identity; timing = timing; sends = refl; passes = refl; earlies = refl })
+
+enter_on : (now : Moment) (d : Decision) (r : Run) → GoesOn now r (enter_decision now d r).run
+enter_on now d r = by_entering now d r (λ k. GoesOn now r k.run) (λ fits whole. waits_on now r _ refl refl) (λ id. held_on now ToTake d d.maker id r) (λ reason e. stays now r)
+
+use_on : (now : Moment) (r : Run) → GoesOn now r (use_if_whole now r)
+use_on now r = by_using now r (GoesOn now r) (stays now r) (waits_on now r _ refl refl) (λ h hold is held purpose fresh. enter_on now h.decision r)
+
+filled_on : (now : Moment) (k : Kept) (r : Run) → GoesOn now r (use_if_whole now (update_kept Filled k r))
+filled_on now k r = then_on now r (update_kept Filled k r) (use_if_whole now (update_kept Filled k r)) (waits_on now r _ refl refl) (use_on now (update_kept Filled k r))
+
+put_on : (now : Moment) (p : Putting) (k : Kept) (r : Run) → GoesOn now r (update_put now p k r)
+put_on now p k r = by_kept now p k r (GoesOn now r) (stays now r) (waits_on now r _ refl refl) (filled_on now k r)
+
+update_on : (now : Moment) (k : Kept) (r : Run) → GoesOn now r (take_update now k r).run
+update_on now k r = by_putting now (received_as r.process k) k r (λ z. GoesOn now r z.run) (filled_on now k r) (waits_on now r _ refl refl) (λ reason other. stays now r)
+
+answer_ask_on : (now : Moment) (from : ℕ) (want : Want) (r : Run) → GoesOn now r (answer_ask now from want r).run
+answer_ask_on now from want r = by_answering now from want r (λ z. GoesOn now r z.run) (λ k. one_sent now _ from r) (stays now r)
+
+sent_on : (team : Team) (now : Moment) (k : Kept) (r : Run) → GoesOn now r (update_sent team now k r)
+sent_on team now k r =
+    let given : Run = seq_given k.entry.id.seq r in
+    let put : Run = update_put now (putting (view_decision r.process.belief) k r.process.waiting) k given in
+    then_on now r put (update_sent team now k r) (then_on now r given put (waits_on now r _ refl refl) (put_on now _ k given)) (others_sent team.n now (bodies.Update k) put)
+
+propose_on : (team : Team) (now : Moment) (order : Order) (atom : Atom) (payload : List ℕ) (r : Run) → GoesOn now r (propose team now order atom payload r).run
+propose_on team now order atom payload r = by_proposing team now order atom payload r (λ z. GoesOn now r z.run) (λ free. sent_on team now (own_update now order atom payload r.process) r) (λ why e. stays now r)
+
 kind_on : (team : Team) (now : Moment) (head : Head) (body : Body) (r : Run) → GoesOn now r (kind_rule team now head body r).run
 unfolding kind_rule
-kind_on team now head (bodies.Update kept) r = stays now r
+kind_on team now head (bodies.Update kept) r = update_on now kept r
 kind_on team now head (bodies.Decision d) r = timely_on team now head (λ t. take_decision now d) r (λ t. decision_on now d r)
 kind_on team now head (bodies.NoDecision number group turn skip reports best) r = stays now r
 kind_on team now head (bodies.Election number why) r = timely_on team now head (answer_election team now head.from number why) r (λ t. answer_on team now head.from number why t r)
 kind_on team now head (bodies.Promise number report d) r = timely_on team now head (λ t. take_promise (record { number = number; report = report; decision = d })) r (λ t. promise_on now (record { number = number; report = report; decision = d }) r)
-kind_on team now head (bodies.Ask want) r = stays now r
+kind_on team now head (bodies.Ask want) r = answer_ask_on now head.from want r
 kind_on team now head (bodies.State group position total offset bytes) r = stays now r
 kind_on team now head (bodies.Sync ready) r = stays now r
 
@@ -274,26 +314,43 @@ promise_agrees given r e = go (wants given r.process.ballot) e
     go true e = absurd (cc)
     go false e = absurd (cc)
 
+update_agrees : (now : Moment) (k : Kept) (r : Run) → (take_update now k r).dropped ≢ Some reasons.Disjoint
+update_agrees now k r = by_putting now (received_as r.process k) k r (λ z. z.dropped ≢ Some reasons.Disjoint) (λ e. absurd (cc)) (λ e. absurd (cc)) (λ reason other e. other (cc))
+
+ask_agrees : (now : Moment) (from : ℕ) (want : Want) (r : Run) → (answer_ask now from want r).dropped ≢ Some reasons.Disjoint
+ask_agrees now from want r = by_answering now from want r (λ z. z.dropped ≢ Some reasons.Disjoint) (λ k e. absurd (cc)) (λ e. absurd (cc))
+
 kind_agrees : (team : Team) (now : Moment) (head : Head) (body : Body) (r : Run) → (kind_rule team now head body r).dropped ≢ Some Reason.Disjoint
 unfolding kind_rule
-kind_agrees team now head (bodies.Update kept) r e = absurd (cc)
+kind_agrees team now head (bodies.Update kept) r e = update_agrees now kept r e
 kind_agrees team now head (bodies.Decision d) r e = timely_agrees team now head (λ t. take_decision now d) r (λ t. decision_agrees now d r) e
 kind_agrees team now head (bodies.NoDecision number group turn skip reports best) r e = absurd (cc)
 kind_agrees team now head (bodies.Election number why) r e = timely_agrees team now head (answer_election team now head.from number why) r (λ t. answer_agrees team now head.from number why t r) e
 kind_agrees team now head (bodies.Promise number report d) r e = timely_agrees team now head (λ t. take_promise (record { number = number; report = report; decision = d })) r (λ t. promise_agrees (record { number = number; report = report; decision = d }) r) e
-kind_agrees team now head (bodies.Ask want) r e = absurd (cc)
+kind_agrees team now head (bodies.Ask want) r e = ask_agrees now head.from want r e
 kind_agrees team now head (bodies.State group position total offset bytes) r e = absurd (cc)
 kind_agrees team now head (bodies.Sync ready) r e = absurd (cc)
 
-pub rule_agrees : (team : Team) (now : Moment) (packet : Result (Option Datagram) Reason) (r : Run) → packet ≢ Err Reason.Disjoint → (rule team now packet r).dropped ≢ Some Reason.Disjoint
+rule_agrees : (team : Team) (now : Moment) (packet : Result (Option Datagram) Reason) (r : Run) → packet ≢ Err Reason.Disjoint → (rule team now packet r).dropped ≢ Some Reason.Disjoint
 rule_agrees team now (Err reason) r other e = other (cc)
 rule_agrees team now (Ok None) r other e = absurd (cc)
 rule_agrees team now (Ok (Some d)) r other e = kind_agrees team now d.head d.body r e
 
+answered : (o : Option Reason) (reason : Reason) → o ≢ Some reason → row_answer (answer_by o) ≢ RowAnswer.Dropped reason
+answered None reason other e = absurd (cc)
+answered (Some r) reason other e = other (cc)
+
+-- nor does a send
+pub event_agrees : (team : Team) (now : Moment) (e : Event) (packet : Result (Option Datagram) Reason) (r : Run) → packet ≢ Err Reason.Disjoint → (event_rule team now e packet r).answer ≢ RowAnswer.Dropped Reason.Disjoint
+event_agrees team now e packet r other = by_event team now e packet r (λ z. z.answer ≢ RowAnswer.Dropped Reason.Disjoint)
+    (answered (rule team now packet r).dropped Reason.Disjoint (rule_agrees team now packet r other))
+    (λ order atom payload. by_proposing team now order atom payload r (λ z. z.answer ≢ RowAnswer.Dropped Reason.Disjoint) (λ free e. absurd (cc)) (λ why is e. absurd (cc)))
+
 -- the whole, from the reading on
 
 ruled_on : (team : Team) (h : ℕ) (e : Event) (p : Process) → GoesOn (moment_of team h e p) (read_by team h e p) (ruled_by team h e p).run
-ruled_on team h e p = rule_on team (moment_of team h e p) _ (read_by team h e p)
+ruled_on team h e p = by_event team (moment_of team h e p) e (learnt_by team h e p).packet (read_by team h e p) (λ z. GoesOn (moment_of team h e p) (read_by team h e p) z.run)
+    (rule_on team (moment_of team h e p) _ (read_by team h e p)) (λ order atom payload. propose_on team (moment_of team h e p) order atom payload (read_by team h e p))
 
 pub ended_on : (team : Team) (h : ℕ) (e : Event) (p : Process) → GoesOn (moment_of team h e p) (read_by team h e p) (ended_by team h e p)
 ended_on team h e p = go (has_duties e)

@@ -12,7 +12,7 @@ use Rattle.tw_types.specs.declared.answer.Reason.{Reason}
 use Rattle.tw_machine.specs.Packet.{admitted}
 use Rattle.tw_machine.specs.Hearing.{given, read, learn_packet, learn}
 use Rattle.tw_machine.specs.Sending.{datagram_to}
-use Rattle.tw_machine.specs.Step.{learnt_by, moment_of, ruled_by, answer_by, step, looked, view_of}
+use Rattle.tw_machine.specs.Step.{learnt_by, moment_of, ruled_by, step, looked, view_of}
 use Rattle.tw_machine.proofs.Clocks.{not_before_given, read_again, reading_again}
 use Rattle.tw_machine.proofs.Parts.{ended_on}
 
@@ -28,7 +28,7 @@ pub step_timing : (team : Team) (h : ℕ) (e : Event) (p : Process) → (step te
 unfolding step
 step_timing team h e p = (ended_on team h e p).timing
 
-pub step_answer : (team : Team) (h : ℕ) (e : Event) (p : Process) → (step team h e p).answer ≡ answer_by (ruled_by team h e p).dropped
+pub step_answer : (team : Team) (h : ℕ) (e : Event) (p : Process) → (step team h e p).answer ≡ (ruled_by team h e p).answer
 unfolding step
 step_answer team h e p = refl
 
@@ -76,6 +76,7 @@ pub learnt_not_before : (team : Team) (me h : ℕ) (e : Event) (t : Timing) → 
 learnt_not_before team me h Event.Tick t known = known
 learnt_not_before team me h (Event.Packet r) t known = packet_not_before team h (admitted team.n me r) t known
 learnt_not_before team me h (Event.Reference lo hi) t known = given_not_before team.ppm h (Some (record { lo = lo; hi = hi })) t known
+learnt_not_before team me h (Event.Send order atom payload) t known = known
 
 pub step_not_before : (team : Team) (h : ℕ) (e : Event) (p : Process) → IsNotBefore h p.timing.clock → IsNotBefore h (step team h e p).process.timing.clock
 step_not_before team h e p known = subst (λ (t : Timing). IsNotBefore h t.clock) (sym (step_timing team h e p)) (learnt_not_before team p.identity.who h e p.timing known)

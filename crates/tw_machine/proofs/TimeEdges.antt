@@ -5,7 +5,7 @@ use Rattle.tw_num.specs.Clock.{Given}
 use Rattle.tw_types.specs.declared.team.Team.{Team}
 use Rattle.tw_types.specs.declared.datagram.Datagram.{Datagram}
 use Rattle.tw_types.specs.declared.datagram.Body.TheVariants.{Sync}
-use Rattle.tw_types.specs.declared.answer.Answer.TheVariants.{Done}
+use Rattle.tw_types.specs.declared.row.RowAnswer.TheVariants.{Done}
 use Rattle.tw_types.specs.declared.outputs.Mode.TheVariants.{First}
 use Rattle.tw_types.specs.Examples.{team_a}
 use Rattle.tw_types.specs.Team.{fault_of}

@@ -2,21 +2,25 @@
 use Rattle.std.specs.Prelude.{ℕ, List, Result}
 use Rattle.tw_types.specs.declared.datagram.Datagram.{Datagram}
 use Rattle.tw_types.specs.declared.datagram.WireFault.{WireFault}
-use Rattle.tw_types.specs.declared.answer.Answer.{Answer}
+use Rattle.tw_types.specs.declared.message.Order.{Order}
+use Rattle.tw_types.specs.declared.message.Atom.{Atom}
+use Rattle.tw_types.specs.declared.row.RowAnswer.{RowAnswer}
 use Rattle.tw_types.specs.declared.outputs.Outputs.{Outputs}
 use Rattle.tw_types.specs.Process.{Process}
 use Rattle.tw_types.specs.Votes.{Promise, Making}
 
--- Time passed; bytes came, of which the wire says what they are; or team time is known to lie from lo to hi.
+-- Time passed; bytes came, of which the wire says what they are; team time is known to lie from lo to hi; or the process is to send an
+-- update.
 pub data Event : Type 0 where
   Tick : Event
   Packet : (read : Result Datagram WireFault) → Event
   Reference : (lo hi : ℕ) → Event
+  Send : (order : Order) → (atom : Atom) → (payload : List ℕ) → Event
 
--- The process after an event, its answer, what it gives, and what it promised and made, which a history collects.
+-- The process after an event, its answer as a row tells it, what it gives, and what it promised and made, which a history collects.
 pub record Outcome : Type 0 where
   pub process : Process
-  pub answer : Answer
+  pub answer : RowAnswer
   pub out : Outputs
   pub promises : List Promise
   pub makings : List Making

@@ -12,7 +12,7 @@ use Rattle.tw_types.specs.declared.datagram.Datagram.{Datagram}
 use Rattle.tw_types.specs.declared.answer.Reason.{Reason}
 use Rattle.tw_types.specs.declared.answer.Reason.TheVariants.{Disjoint}
 use Rattle.tw_types.specs.Process.{Timing}
-use Rattle.tw_machine.specs.Event.{Event, Tick, Packet, Reference}
+use Rattle.tw_machine.specs.Event.{Event, Tick, Packet, Reference, Send}
 use Rattle.tw_machine.specs.Packet.{admitted}
 
 -- of two stamps of one process the greater one, and of equal ones the one that was heard later
@@ -75,3 +75,4 @@ learn team me h (Reference lo hi) t = record {
   timing = given team.ppm h (Some (record { lo = lo; hi = hi })) t;
   packet = unless_dropped (is_refused team.ppm h (Some (record { lo = lo; hi = hi })) t) None;
 }
+learn team me h (Send order atom payload) t = record { timing = t; packet = Ok None }

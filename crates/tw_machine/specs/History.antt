@@ -26,8 +26,7 @@ pub record Promised : Type 0 where
   pub h : ℕ
   pub promise : Promise
 
--- A decision that was made, by whom and when; the entries that its maker added, and the whole list with them, which stay empty
--- until there are updates.
+-- A decision that was made, by whom and when; the entries that its maker added, and the whole list with them, are left empty so far.
 pub record Make : Type 0 where
   pub who : ℕ
   pub member : Member

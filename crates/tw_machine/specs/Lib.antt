@@ -1,4 +1,3 @@
-pub mod Schedule
 pub mod Grammar
 pub mod Dispatches
 pub mod Admissible
@@ -15,6 +14,8 @@ pub mod Taking
 pub mod Electing
 pub mod Deciding
 pub mod Grouping
+pub mod Updating
+pub mod Proposing
 pub mod Rules
 pub mod Duties
 pub mod Step

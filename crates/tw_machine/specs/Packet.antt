@@ -11,12 +11,12 @@ use Rattle.tw_types.specs.declared.answer.Reason.TheVariants.{Wire, Stranger}
 
 -- the datagrams that a process takes today
 abbrev pub is_taken : Body → Bool
-is_taken (bodies.Update kept) = false
+is_taken (bodies.Update kept) = true
 is_taken (bodies.Decision d) = true
 is_taken (bodies.NoDecision number group turn skip reports best) = false
 is_taken (bodies.Election number why) = true
 is_taken (bodies.Promise number report d) = true
-is_taken (bodies.Ask want) = false
+is_taken (bodies.Ask want) = true
 is_taken (bodies.State group position total offset bytes) = false
 is_taken (bodies.Sync ready) = true
 

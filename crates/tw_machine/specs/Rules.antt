@@ -12,15 +12,16 @@ use Rattle.tw_machine.specs.Control.{if_timely}
 use Rattle.tw_machine.specs.Taking.{take_decision}
 use Rattle.tw_machine.specs.Electing.{answer_election}
 use Rattle.tw_machine.specs.Grouping.{take_promise}
+use Rattle.tw_machine.specs.Updating.{take_update, answer_ask}
 
 -- The rule of each kind. A sign of life does nothing, and a kind that isn't taken has no rule yet.
 unfoldable pub kind_rule : Team → Moment → Head → Body → Run → Ruled
-kind_rule team now head (bodies.Update kept) r = done r
+kind_rule team now head (bodies.Update kept) r = take_update now kept r
 kind_rule team now head (bodies.Decision d) r = if_timely team now head (λ t. take_decision now d) r
 kind_rule team now head (bodies.NoDecision number group turn skip reports best) r = done r
 kind_rule team now head (bodies.Election number why) r = if_timely team now head (answer_election team now head.from number why) r
 kind_rule team now head (bodies.Promise number report d) r = if_timely team now head (λ t. take_promise (record { number = number; report = report; decision = d })) r
-kind_rule team now head (bodies.Ask want) r = done r
+kind_rule team now head (bodies.Ask want) r = answer_ask now head.from want r
 kind_rule team now head (bodies.State group position total offset bytes) r = done r
 kind_rule team now head (bodies.Sync ready) r = done r
 

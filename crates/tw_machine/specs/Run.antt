@@ -2,7 +2,9 @@
 use Rattle.std.specs.Prelude.{ℕ, List, [], ◌++◌, Option, Some, None}
 use Rattle.tw_types.specs.declared.datagram.Datagram.{Datagram}
 use Rattle.tw_types.specs.declared.outputs.Outputs.{Outputs}
+use Rattle.tw_types.specs.declared.answer.ProposeFault.{ProposeFault}
 use Rattle.tw_types.specs.declared.answer.Reason.{Reason}
+use Rattle.tw_types.specs.declared.row.RowAnswer.{RowAnswer}
 use Rattle.tw_types.specs.Outputs.{nothing}
 use Rattle.tw_types.specs.Process.{Process}
 use Rattle.tw_types.specs.Votes.{Promise, Making}
@@ -35,3 +37,18 @@ done r = record { run = r; dropped = None }
 -- the event is dropped, and leaves all as it was
 abbrev pub dropped : Reason → Run → Ruled
 dropped reason r = record { run = r; dropped = Some reason }
+
+-- ---- how an event ended, as its row tells it
+
+-- a run after the event's own rule, and the answer
+pub record Ended : Type 0 where
+  pub run : Run
+  pub answer : RowAnswer
+
+-- a send got this number
+abbrev pub sent : ℕ → Run → Ended
+sent seq r = record { run = r; answer = RowAnswer.Sent seq }
+
+-- a send is refused, and leaves all as it was
+abbrev pub refused : ProposeFault → Run → Ended
+refused why r = record { run = r; answer = RowAnswer.Refused why }

@@ -1,14 +1,12 @@
--- What a schedule makes of the processes.
-use Rattle.std.specs.Prelude.{ℕ, ◌≡◌, ◌==◌, true, if◌then◌else◌, List, [], ◌∷◌, ◌++◌, map, Option, Some, None, Ok}
-use Rattle.std.specs.List.{AllByRecursion}
+-- What a schedule makes of the processes. A schedule is a list of steps of processes, the newest first, so what stands behind a step is
+-- its past. A datagram is lost where no step receives it, and repeated where two do. The timed model is Cristian and Fetzer's.
+use Rattle.std.specs.Prelude.{ℕ, ◌≡◌, ◌==◌, if◌then◌else◌, List, [], ◌∷◌, ◌++◌, map, Option, Some, None, Ok}
 use Rattle.tw_types.specs.declared.team.Team.{Team}
 use Rattle.tw_types.specs.Numbered.{numbered}
 use Rattle.tw_types.specs.Votes.{Promise, Making}
 use Rattle.tw_types.specs.declared.step.Act.{Act}
 use Rattle.tw_types.specs.declared.step.Step.{Step}
 use Rattle.tw_types.specs.declared.step.Act.TheVariants.{First, Again, Crash, Tick, Recv, Send, Reference, Look}
-use Rattle.tw_types.specs.declared.answer.Answer.{Answer}
-use Rattle.tw_types.specs.declared.answer.Answer.TheVariants as answers
 use Rattle.tw_types.specs.declared.row.RowAnswer.{RowAnswer}
 use Rattle.tw_types.specs.declared.outputs.Outputs.{Outputs}
 use Rattle.tw_types.specs.declared.outputs.Mode.TheVariants as modes
@@ -16,7 +14,6 @@ use Rattle.tw_types.specs.Outputs.{nothing}
 use Rattle.tw_types.specs.Process.{Process, started}
 use Rattle.tw_machine.specs.Event.{Event, Outcome}
 use Rattle.tw_machine.specs.Step.{step, looked}
-use Rattle.tw_machine.specs.Schedule.{is_built}
 use Rattle.tw_machine.specs.Dispatches.{Dispatch, sent_at}
 use Rattle.tw_machine.specs.Admissible.{cause_of}
 
@@ -33,16 +30,12 @@ pub record Deed : Type 0 where
   pub promises : List Promise
   pub makings : List Making
 
-abbrev pub row_answer : Answer → RowAnswer
-row_answer answers.Done = RowAnswer.Done
-row_answer (answers.Dropped reason) = RowAnswer.Dropped reason
-
 -- an act that gives nothing
 abbrev pub silent : Option Process → RowAnswer → Deed
 silent p answer = record { process = p; answer = answer; out = nothing; promises = []; makings = [] }
 
 abbrev pub deed_of : Outcome → Deed
-deed_of o = record { process = Some o.process; answer = row_answer o.answer; out = o.out; promises = o.promises; makings = o.makings }
+deed_of o = record { process = Some o.process; answer = o.answer; out = o.out; promises = o.promises; makings = o.makings }
 
 abbrev pub happen : Team → ℕ → Event → Process → Deed
 happen team h e p = deed_of (step team h e p)
@@ -52,7 +45,7 @@ abbrev pub receive : Team → ℕ → Option Dispatch → Process → Deed
 receive team h None p = silent (Some p) RowAnswer.Done
 receive team h (Some d) p = happen team h (Event.Packet (Ok d.datagram)) p
 
--- An act of process who at its reading h, after these datagrams were sent. A send isn't built yet and changes nothing.
+-- an act of process who at its reading h, after these datagrams were sent
 abbrev pub deed : Team → ℕ → ℕ → List Dispatch → Act → Option Process → Deed
 deed team who h sent First p = silent (Some (started who modes.First h)) RowAnswer.Start
 deed team who h sent Again p = silent (Some (started who modes.Again h)) RowAnswer.Start
@@ -60,7 +53,7 @@ deed team who h sent Crash p = silent None RowAnswer.Crash
 deed team who h sent act None = silent None RowAnswer.Done
 deed team who h sent Tick (Some p) = happen team h Event.Tick p
 deed team who h sent (Recv d) (Some p) = receive team h (numbered d sent) p
-deed team who h sent (Send order atom payload) (Some p) = silent (Some p) RowAnswer.Done
+deed team who h sent (Send order atom payload) (Some p) = happen team h (Event.Send order atom payload.items) p
 deed team who h sent (Reference lo hi) (Some p) = happen team h (Event.Reference lo hi) p
 deed team who h sent Look (Some p) = silent (Some (looked team h p)) RowAnswer.Look
 
@@ -87,11 +80,3 @@ world team (s ∷ past) = world_after team (world team past) s
 abbrev pub Admissible : Team → List Step → Type 0
 Admissible team [] = Unit {0}
 Admissible team (s ∷ past) = Admissible team past × (cause_of team (world team past).sent past s ≡ None)
-
--- each step of the schedule is of an act that a replay takes today
-abbrev pub AreBuilt : List Step → Type 0
-AreBuilt past = AllByRecursion (λ (s : Step). is_built s.act ≡ true) past
-
--- a schedule that a replay takes
-abbrev pub IsReplayable : Team → List Step → Type 0
-IsReplayable team past = Admissible team past × AreBuilt past

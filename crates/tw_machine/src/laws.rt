@@ -1,6 +1,6 @@
 //! Laws of every admissible schedule. Each is the contract of a function that does nothing.
 
-ghost use Rattle.std.specs.Prelude.{◌≡◌, ◌<◌, ◌≤◌, ◌^◌, ℕ, true, Some, Ok, List, None};
+ghost use Rattle.std.specs.Prelude.{◌≡◌, ◌<◌, ◌≤◌, ◌^◌, ◌+◌, ◌↔◌, ◌⊎◌, ℕ, true, false, Some, Ok, List, length, None};
 ghost use Rattle.std.specs.List.{AllByRecursion};
 ghost use Rattle.tw_types.specs.declared.team.Team.{Team};
 ghost use Rattle.tw_types.specs.Team.{IsSound};
@@ -17,17 +17,30 @@ ghost use Rattle.tw_types.specs.declared.datagram.Body.{Body};
 ghost use Rattle.tw_types.specs.Votes.{Promise};
 ghost use Rattle.tw_types.specs.Ballots.{wants};
 ghost use Rattle.tw_types.specs.Refusals.{first_refusal};
-ghost use Rattle.tw_types.specs.Waiting.{payloads_of};
+ghost use Rattle.tw_types.specs.Waiting.{payloads_of, is_hole};
 ghost use Rattle.tw_types.specs.Logs.{list_tests, first_missing};
 ghost use Rattle.tw_machine.specs.Run.{Run};
-ghost use Rattle.tw_machine.specs.Standing.{last_decision};
+ghost use Rattle.tw_machine.specs.Standing.{member_of, last_decision};
 ghost use Rattle.tw_machine.specs.Control.{rate_of, timely_reading};
 ghost use Rattle.tw_machine.specs.Taking.{decision_tests};
 ghost use Rattle.tw_machine.specs.Electing.{drop_ballot, answer_tests, holds_election, begin_election};
 ghost use Rattle.tw_machine.specs.Deciding.{has_turn, take_turn};
 ghost use Rattle.tw_machine.specs.Grouping.{make_group};
-ghost use Rattle.tw_machine.specs.Beating.{repeat_decision};
+ghost use Rattle.tw_machine.specs.Beating.{is_repeated, repeat_decision};
+ghost use Rattle.tw_machine.specs.Duties.{timed_duties};
 ghost use Rattle.tw_machine.specs.Rules.{kind_rule};
+ghost use Rattle.tw_types.specs.declared.message.Order.{Order};
+ghost use Rattle.tw_types.specs.declared.message.Atom.{Atom};
+ghost use Rattle.tw_types.specs.declared.answer.ProposeFault.{ProposeFault};
+ghost use Rattle.tw_types.specs.declared.row.RowAnswer.{RowAnswer};
+ghost use Rattle.tw_types.specs.Flag.{is_up};
+ghost use Rattle.tw_types.specs.Sends.{SendEnds, update_tests};
+ghost use Rattle.tw_types.specs.declared.message.Kept.{Kept};
+ghost use Rattle.tw_types.specs.declared.datagram.Want.{Want};
+ghost use Rattle.tw_types.specs.declared.answer.Reason.{Reason};
+ghost use Rattle.tw_types.specs.Beliefs.{view_decision};
+ghost use Rattle.tw_machine.specs.Updating.{take_update, answer_ask};
+ghost use Rattle.tw_machine.specs.Proposing.{own_seat, own_seq, propose};
 
 /// A line spells one team at most, and one step at most: this function does nothing, and its contract states that.
 pub fn lines_spell_once()
@@ -45,7 +58,7 @@ pub fn rows_print_once()
 /// Duties that exclude each other in one step, of every process: who makes a next decision makes no group, so that a step makes
 /// one decision at most; and what was made in a step isn't said again in it, nor a decision of a lower group than the promised
 /// one, so who makes a decision repeats nothing, and neither does who holds an election and took no decision of a group above
-/// its promise.
+/// its promise. So where these duties send more than one datagram, nothing is said again after them (`repeats`).
 pub fn duties_exclude_each_other()
     ensures group { (team : Team) (now : Moment) (t : ℕ) (r : Run) → has_turn team t (drop_ballot team t r).process ≡ true →
         make_group team now t (take_turn team now t (drop_ballot team t r)) ≡ take_turn team now t (drop_ballot team t r) }
@@ -54,6 +67,10 @@ pub fn duties_exclude_each_other()
     ensures elected { (team : Team) (now : Moment) (t : ℕ) (r : Run) (last : Decision) → holds_election team now t r.process ≡ true →
         last_decision r.process ≡ Some last → last.group ≤ r.process.vote.promised →
         repeat_decision team now (begin_election team now t r) ≡ begin_election team now t r }
+    ensures repeats { (team : Team) (now : Moment) (t : ℕ) (r : Run) → IsSound team →
+        ((last : Decision) → last_decision r.process ≡ Some last → last.group ≤ r.process.vote.promised) →
+        (length (timed_duties team now t r).out.sends ≤ length r.out.sends + 1) ⊎
+        ((last : Decision) → last_decision (timed_duties team now t r).process ≡ Some last → is_repeated team (timed_duties team now t r).process last (Some t) ≡ false) }
 {}
 
 /// A decision, an election or a promise that comes in time, to a process that has a reading, is done where no test of its kind
@@ -70,4 +87,28 @@ pub fn timely_datagrams_are_done()
     ensures promise { (team : Team) (now : Moment) (head : Head) (p : Promise) (r : Run) (t : ℕ) →
         timely_reading (rate_of team now head) now.reading ≡ Ok t → wants p r.process.ballot ≡ true →
         (kind_rule team now head (Body.Promise p.number p.report p.decision) r).dropped ≡ None }
+{}
+
+/// A send is refused exactly where its cause is there, which is told first, and then leaves all as it was but for what the duties
+/// do; and it gets its number exactly where there is no cause. Nothing else is asked.
+pub fn sends_have_their_causes()
+    ensures refused { (team : Team) (now : Moment) (order : Order) (atom : Atom) (payload : List ℕ) (r : Run) (why : ProposeFault) →
+        ((propose team now order atom payload r).answer ≡ RowAnswer.Refused why) ↔
+        SendEnds (length payload) (is_up team r.process.vote r.process.belief now.reading) (own_seat r.process) r.process.next_seq (Some why) }
+    ensures unchanged { (team : Team) (now : Moment) (order : Order) (atom : Atom) (payload : List ℕ) (r : Run) (why : ProposeFault) →
+        (propose team now order atom payload r).answer ≡ RowAnswer.Refused why → (propose team now order atom payload r).run ≡ r }
+    ensures sent { (team : Team) (now : Moment) (order : Order) (atom : Atom) (payload : List ℕ) (r : Run) →
+        ((propose team now order atom payload r).answer ≡ RowAnswer.Sent (own_seq r.process)) ↔
+        SendEnds (length payload) (is_up team r.process.vote r.process.belief now.reading) (own_seat r.process) r.process.next_seq None }
+{}
+
+/// An update that comes is kept where it fills a hole of a held decision; else the first test that is against it is told, and it
+/// is kept where none is. One that is dropped leaves all as it was, and so does a question that isn't answered.
+pub fn updates_are_tested_in_order()
+    ensures fills { (now : Moment) (k : Kept) (r : Run) → is_hole k.entry.id r.process.waiting.held ≡ true → (take_update now k r).dropped ≡ None }
+    ensures first { (now : Moment) (k : Kept) (r : Run) → is_hole k.entry.id r.process.waiting.held ≡ false →
+        (take_update now k r).dropped ≡ first_refusal (update_tests (member_of r.process.identity) (view_decision r.process.belief) r.process.waiting.pending k) }
+    ensures unchanged { (now : Moment) (k : Kept) (r : Run) (reason : Reason) → (take_update now k r).dropped ≡ Some reason → (take_update now k r).run ≡ r }
+    ensures unanswered { (now : Moment) (from : ℕ) (want : Want) (r : Run) (reason : Reason) →
+        (answer_ask now from want r).dropped ≡ Some reason → (answer_ask now from want r).run ≡ r }
 {}

@@ -41,6 +41,7 @@ first_started : started 2 First 5 ≡ record {
   log = record { base = 0; entries = []; passed = 0 };
   waiting = record { pending = []; held = None };
   hold = None;
+  next_seq = 1;
 }
 first_started = refl
 
@@ -54,5 +55,6 @@ started_again : started 0 Again 1000 ≡ record {
   log = record { base = 0; entries = []; passed = 0 };
   waiting = record { pending = []; held = None };
   hold = None;
+  next_seq = 1;
 }
 started_again = refl

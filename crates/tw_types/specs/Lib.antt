@@ -26,5 +26,6 @@ pub mod Elections
 pub mod Groups
 pub mod Updates
 pub mod Waiting
+pub mod Sends
 pub mod Logs
 pub mod Appending

@@ -1,5 +1,5 @@
 -- How the list of updates of a process grows and is passed, and which decisions fit it.
-use Rattle.std.specs.Prelude.{ℕ, ◌+◌, ◌-◌, nat_le, nat_lt, true, not, ◌||◌, if◌then◌else◌, List, [], ◌∷◌, ◌++◌, map, length, max, Option, Some, None, find, filter_map, slice_get, slice_set}
+use Rattle.std.specs.Prelude.{ℕ, ◌+◌, ◌-◌, nat_le, nat_lt, true, not, ◌||◌, if◌then◌else◌, List, [], ◌∷◌, ◌++◌, map, length, drop, max, Option, Some, None, find, filter_map, slice_get, slice_set}
 use Rattle.std.specs.Option.{option_map}
 use Rattle.tw_types.specs.declared.message.UpdateId.{UpdateId}
 use Rattle.tw_types.specs.declared.message.Entry.{Entry}
@@ -66,6 +66,10 @@ kept_from log = max log.base (log_length log - log_room)
 -- the entry at a position that is kept
 abbrev pub kept_at : ℕ → Log → Option Kept
 kept_at position log = if nat_le (kept_from log) position then log_at position log else None
+
+-- the entries that a process keeps in any case, the oldest first
+abbrev pub kept_entries : Log → List Kept
+kept_entries log = drop (kept_from log - log.base) log.entries
 
 -- one position more is passed
 abbrev pub passed_one : Log → Log

@@ -51,6 +51,8 @@ pub record Process : Type 0 where
   -- the updates and the decision that wait, and for what the decision does
   pub waiting : Waiting
   pub hold : Option Hold
+  -- the number of the next update that it sends, counted from 1 in each life
+  pub next_seq : ℕ
 
 -- A first start has all that there ever was, which is nothing; another one lost it.
 abbrev pub belief_at_start : Mode → Belief
@@ -69,4 +71,5 @@ started who mode h = record {
   log = no_log;
   waiting = nothing_waits;
   hold = None;
+  next_seq = 1;
 }

@@ -2,14 +2,15 @@
 use Rattle.std.specs.Prelude.{ℕ, ◌+◌, ◌-◌, ◌≤◌, ◌<◌, nat_le, nat_lt, Bool, true, not, ◌||◌, if◌then◌else◌, List, [], ◌∷◌, ◌++◌, ◌≡◌, map, drop, Option, None, Some, filter, filter_map, slice_get}
 use Rattle.std.specs.List.{list_any, AllByRecursion}
 use Rattle.std.specs.Option.{option_map, option_map_or}
+use Rattle.tw_types.specs.declared.message.Member.{Member}
 use Rattle.tw_types.specs.declared.message.UpdateId.{UpdateId}
 use Rattle.tw_types.specs.declared.message.Entry.{Entry}
 use Rattle.tw_types.specs.declared.message.Kept.{Kept}
 use Rattle.tw_types.specs.declared.message.Seat.{Seat}
 use Rattle.tw_types.specs.declared.message.Decision.{Decision}
 use Rattle.tw_types.specs.Ranges.{Ascends}
-use Rattle.tw_types.specs.Decisions.{or_none}
-use Rattle.tw_types.specs.Updates.{is_same_id, find_update, has_update, with_pending, pending_room, seat_of_sender, stays_pending, settled, marked}
+use Rattle.tw_types.specs.Decisions.{or_none, is_same_member}
+use Rattle.tw_types.specs.Updates.{is_same_id, sender, find_update, has_update, with_pending, pending_room, seat_of_sender, stays_pending, settled, marked}
 
 -- the entries of a decision's window at this position and behind it
 abbrev pub entries_from : ℕ → Decision → List Entry
@@ -95,6 +96,18 @@ put_as OutOfRange k w = w
 
 abbrev pub after_put : Option Decision → Kept → Waiting → Waiting
 after_put view k w = put_as (putting view k w) k w
+
+-- An update of a process's own life that comes back to it is known, whatever its number, once its sender has a seat.
+abbrev pub known_if_own : Bool → Putting → Putting
+known_if_own own Filled = Filled
+known_if_own own Stored = if own then Known else Stored
+known_if_own own Known = Known
+known_if_own own Stranger = Stranger
+known_if_own own OutOfRange = if own then Known else OutOfRange
+
+-- what becomes of an update that a member receives
+abbrev pub putting_received : Member → Option Decision → Kept → Waiting → Putting
+putting_received me view k w = known_if_own (is_same_member (sender k.entry.id) me) (putting view k w)
 
 -- When an update of a team of n may be put: it has a number, the view's seats ascend, and what is pending is settled by the view, so
 -- that nothing is where there is none.

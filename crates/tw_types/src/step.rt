@@ -44,7 +44,7 @@ pub struct Step {
 /// Why a line of a schedule can't be taken, in the order in which the causes are looked for.
 #[derive(Clone, Copy, Debug, PartialEq, Eq)]
 pub enum Cause {
-    /// The line isn't of the schedule's form, or its act isn't built.
+    /// The line isn't of the schedule's form.
     Grammar,
     /// The team time falls.
     Time,

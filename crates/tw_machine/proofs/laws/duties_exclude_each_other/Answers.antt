@@ -1,4 +1,4 @@
-use Rattle.tw_machine.proofs.Exclusions.{turn_or_group, no_repeat_of_made, no_repeat_of_elector}
+use Rattle.tw_machine.proofs.Exclusions.{turn_or_group, no_repeat_of_made, no_repeat_of_elector, timed_or_repeated}
 use Rattle.tw_machine.proofs.laws.duties_exclude_each_other.Goals as goal
 
 pub returns-clause-group : goal.returns-clause-group
@@ -9,3 +9,6 @@ returns-clause-made c = λ team now t r last sound. no_repeat_of_made team now t
 
 pub returns-clause-elected : goal.returns-clause-elected
 returns-clause-elected c = no_repeat_of_elector
+
+pub returns-clause-repeats : goal.returns-clause-repeats
+returns-clause-repeats c = λ team now t r sound. timed_or_repeated team now t r sound.decide

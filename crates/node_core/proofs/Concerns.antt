@@ -39,6 +39,8 @@ use Rattle.tw_machine.specs.Run.{Run, Ruled, done, dropped}
 use Rattle.tw_machine.specs.Sending.{sent_to, sent_to_others}
 use Rattle.tw_machine.specs.Control.{rate_of, timely_reading, if_timely}
 use Rattle.tw_machine.specs.Taking.{decision_tests, take_decision}
+use Rattle.tw_types.specs.declared.datagram.Want.{Want}
+use Rattle.tw_machine.specs.Updating.{take_update, answer_ask}
 use Rattle.tw_machine.specs.Entering.{enter_decision}
 use Rattle.tw_machine.specs.Standing.{member_of, last_decision, report_by, promise_by}
 use Rattle.tw_machine.specs.Deciding.{has_turn, turn_taken, take_turn}
@@ -268,6 +270,15 @@ decision_rule team now head d r t e = timely_is team now head (λ t. take_decisi
 pub promise_rule : (team : Team) (now : Moment) (head : Head) (p : Promise) (r : Run) (t : ℕ) → timely_reading (rate_of team now head) now.reading ≡ Ok t → kind_rule team now head (bodies.Promise p.number p.report p.decision) r ≡ take_promise p r
 unfolding kind_rule
 promise_rule team now head p r t e = timely_is team now head (λ t. take_promise p) r t e
+
+-- those of an update and of a question
+pub update_rule : (team : Team) (now : Moment) (head : Head) (k : Kept) (r : Run) → kind_rule team now head (bodies.Update k) r ≡ take_update now k r
+unfolding kind_rule
+update_rule team now head k r = refl
+
+pub ask_rule : (team : Team) (now : Moment) (head : Head) (want : Want) (r : Run) → kind_rule team now head (bodies.Ask want) r ≡ answer_ask now head.from want r
+unfolding kind_rule
+ask_rule team now head want r = refl
 
 -- a decision that nothing but its list can be against
 pub wanted_is : (now : Moment) (d : Decision) (r : Run) → first_refusal (decision_tests r.process d) ≡ None → take_decision now d r ≡ enter_decision now d r

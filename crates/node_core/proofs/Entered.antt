@@ -5,7 +5,7 @@ use Rattle.tw_types.specs.declared.message.UpdateId.{UpdateId}
 use Rattle.tw_types.specs.declared.message.Report.{Report}
 use Rattle.tw_types.specs.declared.message.Decision.{Decision}
 use Rattle.tw_types.specs.declared.ballot.Ballot.{Ballot}
-use Rattle.tw_types.specs.Waiting.{Waiting, first_hole, released, settled_by}
+use Rattle.tw_types.specs.Waiting.{Waiting, first_hole, released}
 use Rattle.tw_types.specs.Process.{Process, Hold, ToGroup}
 use Rattle.tw_machine.specs.Run.{Run}
 use Rattle.tw_machine.specs.Entering.{is_overtaken, asked, decision_held}
@@ -16,7 +16,7 @@ use Rattle.node_core.specs.Outcomes.{let_go, best_of}
 use Rattle.node_core.proofs.Listing.{all_weaker}
 
 -- what waits once this decision is taken, and for what a decision is held
-pub left_waiting : (d : Decision) (p : Process) (w : Waiting) (b : Bool) → is_overtaken d w.held ≡ b → p.waiting ≡ w → (let_go d p).waiting ≡ cond b (released (settled_by d w)) (settled_by d w)
+pub left_waiting : (d : Decision) (p : Process) (w : Waiting) (b : Bool) → is_overtaken d w.held ≡ b → p.waiting ≡ w → (let_go d p).waiting ≡ cond b (released w) w
 left_waiting d p w b over same = rw (same, over) refl
 
 pub left_hold : (d : Decision) (p : Process) (w : Waiting) (h : Option Hold) (b : Bool) → is_overtaken d w.held ≡ b → p.waiting ≡ w → p.hold ≡ h → (let_go d p).hold ≡ cond b None h

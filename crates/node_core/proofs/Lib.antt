@@ -2,6 +2,8 @@ pub mod Echoes
 pub mod Refusals
 pub mod Listing
 pub mod Waits
+pub mod Keeping
+pub mod Uses
 pub mod Fitting
 pub mod Next
 pub mod Entered

@@ -14,6 +14,15 @@ pub all_filtered : {X : Type 0} (P : X → Type 0) (p : X → Bool) (xs : List X
 all_filtered P p [] all = tt
 all_filtered P p (x ∷ xs) all = let rest = all_filtered P p xs all.1 in elim (p x) as (λ b. AllByRecursion P (cond b (x ∷ filter p xs) (filter p xs))) [ true ↦ (all.0, rest) | false ↦ rest ]
 
+-- what is left passes the test
+pub filtered_all : {X : Type 0} (p : X → Bool) (xs : List X) → AllByRecursion (λ x. p x ≡ true) (filter p xs)
+filtered_all p [] = tt
+filtered_all p (x ∷ xs) = go (p x) refl (filtered_all p xs)
+  where
+    go : (b : Bool) → p x ≡ b → AllByRecursion (λ x. p x ≡ true) (filter p xs) → AllByRecursion (λ x. p x ≡ true) (cond b (x ∷ filter p xs) (filter p xs))
+    go true e rest = (e, rest)
+    go false e rest = rest
+
 pub all_weaker : {X : Type 0} (P Q : X → Type 0) → ((x : X) → P x → Q x) → (xs : List X) → AllByRecursion P xs → AllByRecursion Q xs
 all_weaker P Q weaker [] all = tt
 all_weaker P Q weaker (x ∷ xs) all = (weaker x all.0, all_weaker P Q weaker xs all.1)

@@ -89,6 +89,7 @@ made = record {
   oal = record { length = 0; passed = 0; kept = [] };
   store = record { n = 3; waiting = nothing_waits };
   hold = None;
+  next_seq = 1;
   sound = sound;
   who = omega arith;
   incarnation = omega arith;
@@ -116,6 +117,7 @@ stands = record {
   log = nothing_kept;
   waiting = refl;
   hold = refl;
+  next_seq = refl;
 }
 
 for_another : StandsFor made (started 1 First 5) → ⊥
@@ -137,6 +139,7 @@ in_range = record {
   length = refl;
   log = record { log = no_log; stands = nothing_kept };
   waiting = record { pending = tt; held = tt };
+  updates = record { listed = tt; settled = tt; held_for = tt; size = refl; numbered = omega arith };
 }
 
 promised_too_much : IsInRange (record made { vote = record { promised = 2 ^ 60; support = None } }) → ⊥

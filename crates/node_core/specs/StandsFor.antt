@@ -60,6 +60,7 @@ pub record StandsFor (c : State) (p : Process) : Type 0 where
   pub log : list.StandsFor c.oal p.log
   pub waiting : p.waiting ≡ c.store.waiting
   pub hold : p.hold ≡ option_map hold_seen c.hold
+  pub next_seq : p.next_seq ≡ c.next_seq
 
 -- A process of this team and what it gave so far stand for a run. For what a history collects nothing stands.
 pub record RunStandsFor (team : Team) (c : State) (out : Outputs) (r : Run) : Type 0 where

@@ -27,7 +27,7 @@ impl Beat {
 }
 
 impl State {
-    ghost use Rattle.std.specs.Prelude.{◌≡◌, ◌<◌, ◌≤◌, ◌+◌, ◌^◌, length, None, IfSome};
+    ghost use Rattle.std.specs.Prelude.{◌≡◌, ◌<◌, ◌≤◌, ◌+◌, ◌^◌, length, Some, None, IfSome};
     ghost use Rattle.tw_types.specs.declared.datagram.Body.TheVariants.{Sync};
     ghost use Rattle.tw_types.specs.declared.team.Team.{Team as TeamSeen};
     ghost use Rattle.tw_machine.specs.Run.{Run};
@@ -37,12 +37,15 @@ impl State {
     ghost use Rattle.node_core.specs.Moments.{MomentFits};
     ghost use Rattle.node_core.specs.Sends.{GivesMore};
     ghost use Rattle.tw_types.specs.Process.{Process};
-    ghost use Rattle.node_core.specs.StandsFor.{StandsFor, RunStandsFor};
+    ghost use Rattle.tw_types.specs.Beliefs.{last_of};
+    ghost use Rattle.node_core.specs.Outcomes.{says_again, said_again};
+    ghost use Rattle.node_core.specs.StandsFor.{StandsFor, RunStandsFor, belief_seen};
 
     /// Whether the last decision is said again: the process made it itself, so long ago, and promised no other group.
     fn is_repeated(&self, last: &Decision, reading: Option<u64>) -> bool
         requires { IfSome reading (λ t. t < 2 ^ 60) }
-        ensures { (p : Process) → StandsFor self.now p → result ≡ is_repeated self.now.team p last.now reading }
+        ensures exact { (p : Process) → StandsFor self.now p → result ≡ is_repeated self.now.team p last.now reading }
+        ensures here { last_of (belief_seen self.now.belief) ≡ Some last.now → result ≡ says_again self.now reading }
     {
         match reading {
             None => false,
@@ -60,10 +63,10 @@ impl State {
     fn repeat_decision(&self, now: &Moment, out: &mut Outputs)
         requires fits { IsInRange self.now }
         requires now { MomentFits now.now }
-        requires room { length out.old.sends + 14 ≤ 64 }
+        requires room { length out.old.sends + said_again self.now now.now.reading ≤ 64 }
         ensures stands { (team : TeamSeen) (r : Run) → RunStandsFor team self.now out.old r →
             RunStandsFor team self.now out.new (repeat_decision team now.now r) }
-        ensures gives { GivesMore self.now.team.n 14 out.old out.new }
+        ensures gives { GivesMore self.now.team.n (said_again self.now now.now.reading) out.old out.new }
     {
         if let Some(last) = self.belief.last() {
             if self.is_repeated(last, now.reading) {
@@ -105,10 +108,10 @@ impl State {
     pub fn give_beat(&mut self, now: &Moment, out: &mut Outputs)
         requires fits { IsInRange self.old }
         requires now { MomentFits now.now }
-        requires room { length out.old.sends + 29 ≤ 64 }
+        requires room { length out.old.sends + 15 + said_again self.old now.now.reading ≤ 64 }
         ensures stands { (team : TeamSeen) (r : Run) → RunStandsFor team self.old out.old r →
             RunStandsFor team self.new out.new (give_beat team now.now r) }
-        ensures gives { GivesMore self.old.team.n 29 out.old out.new }
+        ensures gives { GivesMore self.old.team.n (15 + said_again self.old now.now.reading) out.old out.new }
         ensures fits { IsInRange self.new }
         ensures team { self.new.team ≡ self.old.team }
     {

@@ -7,7 +7,7 @@ use tw_num::Moment;
 use tw_types::{Body, Decision, Outputs};
 
 impl State {
-    ghost use Rattle.std.specs.Prelude.{◌≡◌, ◌<◌, ◌≤◌, ◌+◌, ◌^◌, length, true, Option, Some, None, List};
+    ghost use Rattle.std.specs.Prelude.{◌≡◌, ◌<◌, ◌≤◌, ◌+◌, ◌^◌, length, true, false, Option, Some, None, List};
     ghost use Rattle.tw_types.specs.declared.team.Team.{Team as TeamSeen};
     ghost use Rattle.tw_types.specs.declared.message.Report.{Report};
     ghost use Rattle.tw_types.specs.declared.message.Decision.{Decision as DecisionSeen};
@@ -24,7 +24,7 @@ impl State {
     ghost use Rattle.tw_machine.specs.Deciding.{entries_to_add, decision_made, take_turn};
     ghost use Rattle.node_core.specs.InRange.{IsInRange};
     ghost use Rattle.node_core.specs.Moments.{MomentFits};
-    ghost use Rattle.node_core.specs.Outcomes.{IsDraft};
+    ghost use Rattle.node_core.specs.Outcomes.{IsDraft, says_again};
     ghost use Rattle.node_core.specs.Sends.{GivesMore};
     ghost use Rattle.node_core.specs.StandsFor.{StandsFor, RunStandsFor, identity_seen, vote_seen, belief_seen};
 
@@ -42,6 +42,7 @@ impl State {
         ensures gives { GivesMore self.old.team.n 14 out.old out.new }
         ensures fits { IsInRange self.new }
         ensures team { self.new.team ≡ self.old.team }
+        ensures last { last_of (belief_seen self.new.belief) ≡ Some d }
     {
         self.vote.support = Some(t);
         self.enter(&d);
@@ -93,6 +94,7 @@ impl State {
         ensures fits { DecisionFits self.now.team.n result }
         ensures list { first_refusal (fit_tests_at self.now.oal.length self.now.oal.passed (payloads_of self.now.store.waiting) result) ≡ None }
         ensures group { result.group ≡ last.now.group }
+        ensures made { result.made ≡ t }
     {
         // the list is no further ahead of what is passed than it may be
         let ahead = self.oal.length() - self.oal.passed();
@@ -110,6 +112,8 @@ impl State {
         requires room { length out.old.sends + 14 ≤ 64 }
         ensures stands { (team : TeamSeen) (r : Run) → RunStandsFor team self.old out.old r →
             RunStandsFor team self.new out.new (take_turn team now.now t r) }
+        // what was made just now isn't said again
+        ensures again { says_again self.new (Some t) ≡ false }
         ensures gives { GivesMore self.old.team.n 14 out.old out.new }
         ensures fits { IsInRange self.new }
         ensures team { self.new.team ≡ self.old.team }

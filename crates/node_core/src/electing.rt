@@ -37,7 +37,7 @@ fn is_over(team: &Team, promised: u64, last: Option<&Decision>, t: u64, ballot: 
 }
 
 impl State {
-    ghost use Rattle.std.specs.Prelude.{◌≡◌, ◌<◌, ◌≤◌, ◌+◌, ◌^◌, true, length, IfNone, IfSome, MatchOption};
+    ghost use Rattle.std.specs.Prelude.{◌≡◌, ◌<◌, ◌≤◌, ◌+◌, ◌^◌, true, length, Some, IfNone, IfSome, MatchOption};
     ghost use Rattle.tw_types.specs.declared.team.Team.{Team as TeamSeen};
     ghost use Rattle.tw_types.specs.declared.outputs.Outputs.{Outputs as OutputsSeen};
     ghost use Rattle.tw_types.specs.BallotFits.{IsBallot};
@@ -48,7 +48,7 @@ impl State {
     ghost use Rattle.tw_machine.specs.Run.{Run};
     ghost use Rattle.tw_machine.specs.Electing.{answer_tests, answer_election, drop_ballot, begin_election};
     ghost use Rattle.node_core.specs.InRange.{IsInRange, ReportsWithin};
-    ghost use Rattle.node_core.specs.Outcomes.{HoldsElection};
+    ghost use Rattle.node_core.specs.Outcomes.{HoldsElection, says_again};
     ghost use Rattle.node_core.specs.Moments.{MomentFits};
     ghost use Rattle.node_core.specs.Sends.{GivesMore};
     ghost use Rattle.node_core.specs.StandsFor.{StandsFor, RunStandsFor};
@@ -180,6 +180,8 @@ impl State {
         requires room { length out.old.sends + 14 ≤ 64 }
         ensures stands { (team : TeamSeen) (r : Run) → RunStandsFor team self.old out.old r →
             RunStandsFor team self.new out.new (begin_election team now.now t r) }
+        // who begins a ballot says nothing again
+        ensures again { says_again self.new (Some t) ≡ true → (self.new ≡ self.old) × (out.new ≡ out.old) }
         ensures gives { GivesMore self.old.team.n 14 out.old out.new }
         ensures fits { IsInRange self.new }
         ensures team { self.new.team ≡ self.old.team }

@@ -9,15 +9,16 @@ use tw_num::Moment;
 use tw_types::{Body, Decision, Outputs, UpdateId, Want};
 
 /// Whether the first decision is below the second: of a lower group, or of a lower turn of the same one.
-fn is_older(first: &Decision, second: &Decision) -> bool
+pub fn is_older(first: &Decision, second: &Decision) -> bool
     ensures { result ≡ is_older first.now.group first.now.turn second.now.group second.now.turn }
 {
     first.group < second.group || first.group == second.group && first.turn < second.turn
 }
 
 impl State {
-    ghost use Rattle.std.specs.Prelude.{◌≡◌, ◌<◌, ◌≤◌, ◌+◌, ◌^◌, length, None};
+    ghost use Rattle.std.specs.Prelude.{◌≡◌, ◌<◌, ◌≤◌, ◌+◌, ◌^◌, length, None, Some};
     ghost use Rattle.tw_types.specs.declared.team.Team.{Team as TeamSeen};
+    ghost use Rattle.tw_types.specs.Beliefs.{last_of};
     ghost use Rattle.tw_types.specs.Logs.{fit_tests_at};
     ghost use Rattle.tw_types.specs.Process.{Process};
     ghost use Rattle.tw_types.specs.Ranges.{IdFits, DecisionFits};
@@ -25,11 +26,12 @@ impl State {
     ghost use Rattle.tw_types.specs.Waiting.{payloads_of};
     ghost use Rattle.tw_machine.specs.Entering.{is_overtaken, entered, asked, decision_held};
     ghost use Rattle.tw_machine.specs.Run.{Run};
+    ghost use Rattle.node_core.specs.declared.state.Purpose.TheVariants.{ToTake};
     ghost use Rattle.node_core.specs.InRange.{IsInRange};
     ghost use Rattle.node_core.specs.Moments.{MomentFits};
     ghost use Rattle.node_core.specs.Outcomes.{let_go, list_reason};
     ghost use Rattle.node_core.specs.Sends.{GivesMore};
-    ghost use Rattle.node_core.specs.StandsFor.{StandsFor, RunStandsFor, purpose_seen};
+    ghost use Rattle.node_core.specs.StandsFor.{StandsFor, RunStandsFor, purpose_seen, belief_seen};
 
     /// Whether a decision is held that isn't above this one.
     fn has_overtaken(&self, d: &Decision) -> bool
@@ -38,15 +40,14 @@ impl State {
         self.store.held().is_some_and(|held| !is_older(d, held))
     }
 
-    /// Lets go what nobody needs once this decision is taken: updates that it doesn't keep pending, and a held decision that
-    /// isn't above it.
+    /// Lets go a held decision that isn't above this one, which is taken.
     fn let_go(&mut self, d: &Decision)
         requires fits { IsInRange self.old }
         ensures stands { (p : Process) → StandsFor self.old p → StandsFor self.new (let_go d.now p) }
         ensures fits { IsInRange self.new }
         ensures team { self.new.team ≡ self.old.team }
+        ensures belief { self.new.belief ≡ self.old.belief }
     {
-        self.store.settle(d);
         if self.has_overtaken(d) {
             self.store.release();
             self.hold = None;
@@ -62,8 +63,10 @@ impl State {
         ensures stands { (p : Process) → StandsFor self.old p → StandsFor self.new (entered d.now p) }
         ensures fits { IsInRange self.new }
         ensures team { self.new.team ≡ self.old.team }
+        ensures last { last_of (belief_seen self.new.belief) ≡ Some d.now }
     {
         self.oal.extend(d, &self.store);
+        self.store.settle(d);
         self.belief = Belief::Informed(Some(d.copy()));
         self.let_go(d);
     }
@@ -106,6 +109,7 @@ impl State {
         requires decision { DecisionFits self.old.team.n d.now }
         requires source { source < self.old.team.n }
         requires id { IdFits self.old.team.n id }
+        requires promised { purpose ≡ ToTake → d.now.group ≤ self.old.vote.promised }
         requires room { length out.old.sends + 1 ≤ 64 }
         ensures stands { (team : TeamSeen) (r : Run) → RunStandsFor team self.old out.old r →
             RunStandsFor team self.new out.new (decision_held now.now (purpose_seen purpose) d.now source id r) }

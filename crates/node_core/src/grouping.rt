@@ -8,7 +8,7 @@ use tw_num::Moment;
 use tw_types::{Ballot, Decision, Outputs, Reason, Report, UpdateId};
 
 impl State {
-    ghost use Rattle.std.specs.Prelude.{◌≡◌, ◌<◌, ◌≤◌, ◌+◌, ◌^◌, length, Some, None, IfSome, IfOk, IfErr};
+    ghost use Rattle.std.specs.Prelude.{◌≡◌, ◌<◌, ◌≤◌, ◌+◌, ◌^◌, length, true, Some, None, IfSome, IfOk, IfErr};
     ghost use Rattle.std.specs.Option.{option_copied, option_and_then};
     ghost use Rattle.tw_types.specs.declared.team.Team.{Team as TeamSeen};
     ghost use Rattle.tw_types.specs.declared.outputs.Outputs.{Outputs as OutputsSeen};
@@ -22,7 +22,7 @@ impl State {
     ghost use Rattle.tw_machine.specs.Run.{Run};
     ghost use Rattle.tw_machine.specs.Grouping.{take_promise, best_held, make_group};
     ghost use Rattle.node_core.specs.InRange.{IsInRange, ReportsWithin};
-    ghost use Rattle.node_core.specs.Outcomes.{made_if_complete, run_made, best_of};
+    ghost use Rattle.node_core.specs.Outcomes.{made_if_complete, run_made, best_of, says_again};
     ghost use Rattle.node_core.specs.Moments.{MomentFits};
     ghost use Rattle.node_core.specs.Sends.{GivesMore};
     ghost use Rattle.node_core.specs.StandsFor.{StandsFor, RunStandsFor};
@@ -73,6 +73,7 @@ impl State {
         ensures list { IfSome result (λ made. IfOk made (λ d.
             first_refusal (fit_tests_at self.now.oal.length self.now.oal.passed (payloads_of self.now.store.waiting) d) ≡ None)) }
         ensures number { IfSome result (λ made. IfOk made (λ d. d.group ≡ ballot.now.number)) }
+        ensures made { IfSome result (λ made. IfOk made (λ d. d.made ≡ t)) }
     {
         if !complete(&self.team, ballot, t) {
             return None;
@@ -94,6 +95,7 @@ impl State {
         ensures list { IfSome result (λ made. IfOk made (λ d.
             first_refusal (fit_tests_at self.now.oal.length self.now.oal.passed (payloads_of self.now.store.waiting) d) ≡ None)) }
         ensures number { IfSome result (λ made. IfOk made (λ d. d.group ≤ self.now.vote.promised)) }
+        ensures made { IfSome result (λ made. IfOk made (λ d. d.made ≡ t)) }
     {
         match &self.ballot {
             None => None,
@@ -146,11 +148,14 @@ impl State {
         requires number { IfOk made (λ d. d.group ≤ self.old.vote.promised) }
         requires list { IfOk made (λ d.
             first_refusal (fit_tests_at self.old.oal.length self.old.oal.passed (payloads_of self.old.store.waiting) d) ≡ None) }
+        requires made { IfOk made (λ d. d.made ≡ t) }
         requires id { IfErr made (IdFits self.old.team.n) }
         requires reading { t < 2 ^ 60 }
         requires room { length out.old.sends + 14 ≤ 64 }
         ensures stands { (team : TeamSeen) (ballot : BallotSeen) (r : Run) → r.process.ballot ≡ Some ballot → RunStandsFor team self.old out.old r →
             RunStandsFor team self.new out.new (run_made team now.now t r ballot (Some made)) }
+        // who makes a group says nothing again at once
+        ensures again { says_again self.new (Some t) ≡ true → length out.new.sends ≤ length out.old.sends + 1 }
         ensures gives { GivesMore self.old.team.n 14 out.old out.new }
         ensures fits { IsInRange self.new }
         ensures team { self.new.team ≡ self.old.team }
@@ -173,6 +178,8 @@ impl State {
         requires room { length out.old.sends + 14 ≤ 64 }
         ensures stands { (team : TeamSeen) (r : Run) → RunStandsFor team self.old out.old r →
             RunStandsFor team self.new out.new (make_group team now.now t r) }
+        // who makes a group says nothing again at once
+        ensures again { says_again self.new (Some t) ≡ true → length out.new.sends ≤ length out.old.sends + 1 }
         ensures gives { GivesMore self.old.team.n 14 out.old out.new }
         ensures fits { IsInRange self.new }
         ensures team { self.new.team ≡ self.old.team }

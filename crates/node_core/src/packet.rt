@@ -15,10 +15,13 @@ fn is_taken(body: &Body) -> bool
     ensures { result ≡ is_taken body.now }
 {
     match body {
-        Body::Decision(_) | Body::Election { .. } | Body::Promise { .. } | Body::Sync { .. } => {
-            true
-        }
-        Body::Update(_) | Body::NoDecision { .. } | Body::Ask(_) | Body::State { .. } => false,
+        Body::Update(_)
+        | Body::Decision(_)
+        | Body::Election { .. }
+        | Body::Promise { .. }
+        | Body::Ask(_)
+        | Body::Sync { .. } => true,
+        Body::NoDecision { .. } | Body::State { .. } => false,
     }
 }
 

@@ -9,7 +9,7 @@ use crate::state::State;
 use std::alloc::Global;
 use std::marker::Model;
 use tw_num::WantOfMemory;
-use tw_types::{Answer, Datagram, Mode, Outputs, Reason, Team, View};
+use tw_types::{Answer, Atom, Datagram, Mode, Order, Outputs, ProposeFault, Reason, Team, View};
 use wire_body::blank;
 
 /// What happens to a process.
@@ -44,11 +44,17 @@ impl Model for Core {
 }
 
 impl Core {
-    ghost use Rattle.std.specs.Prelude.{◌≡◌, ◌<◌, ◌≤◌, ◌^◌, IfOk};
+    ghost use Rattle.std.specs.Prelude.{◌≡◌, ◌<◌, ◌≤◌, ◌+◌, ◌^◌, length, true, Some, None, IfOk};
     ghost use Rattle.std.specs.List.{AllByRecursion};
+    ghost use Rattle.tw_types.specs.declared.message.Seat.{Seat as SeatSeen};
+    ghost use Rattle.tw_types.specs.Flag.{is_up};
+    ghost use Rattle.tw_types.specs.Sends.{first_send_refusal, seq_to_send};
     ghost use Rattle.tw_types.specs.Process.{Process, started};
-    ghost use Rattle.tw_num.specs.Clock.{IsNotBefore};
-    ghost use Rattle.tw_machine.specs.Step.{step, looked, view_of};
+    ghost use Rattle.tw_num.specs.Clock.{IsNotBefore, moment_at, reading_at};
+    ghost use Rattle.tw_machine.specs.Event.{Send};
+    ghost use Rattle.tw_machine.specs.Proposing.{own_seat, refusals};
+    ghost use Rattle.tw_machine.specs.Step.{row_answer, step, looked, view_of};
+    ghost use Rattle.node_core.specs.Outcomes.{send_answer, send_refusal};
     ghost use Rattle.node_core.specs.Events.{event_seen, IsGivable};
     ghost use Rattle.node_core.specs.Sends.{IsSendable};
     ghost use Rattle.node_core.specs.StandsFor.{StandsFor};
@@ -74,7 +80,7 @@ impl Core {
         ensures stands { (p : Process) → StandsFor self.old p → IsNotBefore h p.timing.clock →
             StandsFor self.new (step self.old.team h (event_seen self.old.team event.entry) p).process }
         ensures answer { (p : Process) → StandsFor self.old p → IsNotBefore h p.timing.clock →
-            result ≡ (step self.old.team h (event_seen self.old.team event.entry) p).answer }
+            row_answer result ≡ (step self.old.team h (event_seen self.old.team event.entry) p).answer }
         ensures out { (p : Process) → StandsFor self.old p → IsNotBefore h p.timing.clock →
             out.new ≡ (step self.old.team h (event_seen self.old.team event.entry) p).out }
         ensures fits { AllByRecursion (IsSendable self.old.team.n) out.new.sends }
@@ -82,6 +88,43 @@ impl Core {
     {
         out.clear();
         self.state.step(&mut self.inbox, event, h, out)
+    }
+
+    /// Sends an update at the reading `h`, not below the last one, and puts what that gives into `out`, which is cleared first. Answers
+    /// the update's number, or why it isn't sent: the first of `TooLong`, `NotUpToDate`, `Full` and `Spent` that is so. Then nothing
+    /// changes but by the clock and the duties, which run all the same.
+    ///
+    /// `TooLong` comes where the payload has more than 128 bytes; `NotUpToDate` where the process isn't up at its reading, or this life
+    /// of it has no seat in its last decision; `Full` where the number would be 8 or more above the one that its seat awaits; `Spent`
+    /// where it would be 4,294,967,295.
+    pub fn propose(
+        &mut self,
+        h: u64,
+        order: Order,
+        atom: Atom,
+        payload: &[u8],
+        out: &mut Outputs,
+    ) -> Result<u32, ProposeFault>
+        requires reading { h < 2 ^ 60 }
+        ensures stands { (p : Process) → StandsFor self.old p → IsNotBefore h p.timing.clock →
+            StandsFor self.new (step self.old.team h (Send order atom payload.now) p).process }
+        ensures answer { (p : Process) → StandsFor self.old p → IsNotBefore h p.timing.clock →
+            send_answer result ≡ (step self.old.team h (Send order atom payload.now) p).answer }
+        ensures out { (p : Process) → StandsFor self.old p → IsNotBefore h p.timing.clock →
+            out.new ≡ (step self.old.team h (Send order atom payload.now) p).out }
+        // the first refusal that is there, and else a number
+        ensures refused { (p : Process) → StandsFor self.old p → IsNotBefore h p.timing.clock →
+            send_refusal result ≡ first_send_refusal (refusals self.old.team (moment_at self.old.team.ppm self.old.team.eps h p.timing.clock) (length payload.now) p) }
+        // a process that is up sends what is short enough, where its seat awaits it, and a number is left
+        ensures complete { (p : Process) (seat : SeatSeen) → StandsFor self.old p → IsNotBefore h p.timing.clock →
+            length payload.now ≤ 128 → is_up self.old.team p.vote p.belief (reading_at self.old.team.ppm self.old.team.eps h p.timing.clock) ≡ true →
+            own_seat p ≡ Some seat → seq_to_send (Some seat) p.next_seq < seat.next + 8 → seq_to_send (Some seat) p.next_seq < 4294967295 →
+            send_refusal result ≡ None }
+        ensures fits { AllByRecursion (IsSendable self.old.team.n) out.new.sends }
+        ensures team { self.new.team ≡ self.old.team }
+    {
+        out.clear();
+        self.state.propose(order, atom, payload, h, out)
     }
 
     /// What the process says of itself at the reading `h`, not below the last one.
@@ -96,12 +139,18 @@ impl Core {
 }
 
 impl State {
-    ghost use Rattle.std.specs.Prelude.{◌≡◌, ◌<◌, ◌≤◌, ◌^◌};
+    ghost use Rattle.std.specs.Prelude.{◌≡◌, ◌<◌, ◌≤◌, ◌+◌, ◌^◌, length, true, Some, None};
+    ghost use Rattle.tw_types.specs.declared.message.Seat.{Seat as SeatSeen};
+    ghost use Rattle.tw_types.specs.Flag.{is_up};
     ghost use Rattle.std.specs.List.{AllByRecursion};
+    ghost use Rattle.tw_types.specs.Sends.{first_send_refusal, seq_to_send};
     ghost use Rattle.tw_types.specs.Outputs.{nothing};
     ghost use Rattle.tw_types.specs.Process.{Process};
-    ghost use Rattle.tw_num.specs.Clock.{IsNotBefore};
-    ghost use Rattle.tw_machine.specs.Step.{step, looked, view_of};
+    ghost use Rattle.tw_num.specs.Clock.{IsNotBefore, moment_at, reading_at};
+    ghost use Rattle.tw_machine.specs.Event.{Send};
+    ghost use Rattle.tw_machine.specs.Proposing.{own_seat, refusals};
+    ghost use Rattle.tw_machine.specs.Step.{row_answer, step, looked, view_of};
+    ghost use Rattle.node_core.specs.Outcomes.{send_answer, send_refusal};
     ghost use Rattle.node_core.specs.Events.{event_seen, IsGivable};
     ghost use Rattle.node_core.specs.InRange.{IsInRange};
     ghost use Rattle.node_core.specs.Sends.{IsSendable};
@@ -116,7 +165,7 @@ impl State {
         ensures stands { (p : Process) → StandsFor self.old p → IsNotBefore h p.timing.clock →
             StandsFor self.new (step self.old.team h (event_seen self.old.team event.entry) p).process }
         ensures answer { (p : Process) → StandsFor self.old p → IsNotBefore h p.timing.clock →
-            result ≡ (step self.old.team h (event_seen self.old.team event.entry) p).answer }
+            row_answer result ≡ (step self.old.team h (event_seen self.old.team event.entry) p).answer }
         ensures out { (p : Process) → StandsFor self.old p → IsNotBefore h p.timing.clock →
             out.new ≡ (step self.old.team h (event_seen self.old.team event.entry) p).out }
         ensures gives { AllByRecursion (IsSendable self.old.team.n) out.new.sends }
@@ -137,6 +186,42 @@ impl State {
             self.duties(&now, out);
         }
         answer(dropped)
+    }
+
+    /// Sends an update at the reading `h`, and puts what that gives into the empty `out`. The duties run after it, also where it is
+    /// refused.
+    fn propose(
+        &mut self,
+        order: Order,
+        atom: Atom,
+        payload: &[u8],
+        h: u64,
+        out: &mut Outputs,
+    ) -> Result<u32, ProposeFault>
+        requires fits { IsInRange self.old }
+        requires reading { h < 2 ^ 60 }
+        requires empty { out.old ≡ nothing }
+        ensures stands { (p : Process) → StandsFor self.old p → IsNotBefore h p.timing.clock →
+            StandsFor self.new (step self.old.team h (Send order atom payload.now) p).process }
+        ensures answer { (p : Process) → StandsFor self.old p → IsNotBefore h p.timing.clock →
+            send_answer result ≡ (step self.old.team h (Send order atom payload.now) p).answer }
+        ensures out { (p : Process) → StandsFor self.old p → IsNotBefore h p.timing.clock →
+            out.new ≡ (step self.old.team h (Send order atom payload.now) p).out }
+        ensures refused { (p : Process) → StandsFor self.old p → IsNotBefore h p.timing.clock →
+            send_refusal result ≡ first_send_refusal (refusals self.old.team (moment_at self.old.team.ppm self.old.team.eps h p.timing.clock) (length payload.now) p) }
+        // a process that is up sends what is short enough, where its seat awaits it, and a number is left
+        ensures complete { (p : Process) (seat : SeatSeen) → StandsFor self.old p → IsNotBefore h p.timing.clock →
+            length payload.now ≤ 128 → is_up self.old.team p.vote p.belief (reading_at self.old.team.ppm self.old.team.eps h p.timing.clock) ≡ true →
+            own_seat p ≡ Some seat → seq_to_send (Some seat) p.next_seq < seat.next + 8 → seq_to_send (Some seat) p.next_seq < 4294967295 →
+            send_refusal result ≡ None }
+        ensures gives { AllByRecursion (IsSendable self.old.team.n) out.new.sends }
+        ensures fits { IsInRange self.new }
+        ensures team { self.new.team ≡ self.old.team }
+    {
+        let now = self.timing.moment(h);
+        let answer = self.send_update(&now, order, atom, payload, out);
+        self.duties(&now, out);
+        answer
     }
 
     /// What the process says of itself at the reading `h`.

@@ -56,11 +56,9 @@ impl State {
                 Err(reason) => Some(reason),
                 Ok(_) => self.take_promise(*number, report, decision.as_ref()),
             },
-            Body::Update(_)
-            | Body::NoDecision { .. }
-            | Body::Ask(_)
-            | Body::State { .. }
-            | Body::Sync { .. } => None,
+            Body::Update(kept) => self.take_update(now, kept, out),
+            Body::Ask(want) => self.answer_ask(now, head.from, want, out),
+            Body::NoDecision { .. } | Body::State { .. } | Body::Sync { .. } => None,
         }
     }
 

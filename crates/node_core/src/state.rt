@@ -115,6 +115,8 @@ pub struct State {
     pub store: Store,
     /// For what a decision is held, where one is.
     pub hold: Option<Hold>,
+    /// The number of the next update that it sends, unless its seat awaits a greater one.
+    pub next_seq: u32,
     ghost sound: { IsSound team } by { Prim.hlevel props },
     ghost who: { identity.who < team.n },
     ghost incarnation: { identity.incarnation < 2 ^ 60 },
@@ -172,6 +174,7 @@ impl State {
             oal,
             store,
             hold: None,
+            next_seq: 1,
         })
     }
 

@@ -91,11 +91,16 @@ impl State {
 
     /// Takes a decision of the promised group where it goes on the list. Holds one that lacks a payload, and asks its maker for
     /// that. Answers why it isn't taken, if it isn't.
-    fn enter_decision(&mut self, now: &Moment, d: &Decision, out: &mut Outputs) -> Option<Reason>
+    pub fn enter_decision(
+        &mut self,
+        now: &Moment,
+        d: &Decision,
+        out: &mut Outputs,
+    ) -> Option<Reason>
         requires fits { IsInRange self.old }
         requires now { MomentFits now.now }
         requires decision { DecisionFits self.old.team.n d.now }
-        requires promised { d.now.group ≡ self.old.vote.promised }
+        requires promised { d.now.group ≤ self.old.vote.promised }
         requires room { length out.old.sends + 1 ≤ 64 }
         ensures stands { (team : TeamSeen) (r : Run) → RunStandsFor team self.old out.old r →
             RunStandsFor team self.new out.new (enter_decision now.now d.now r).run }

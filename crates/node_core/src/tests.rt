@@ -2,12 +2,14 @@ ghost use Rattle.std.specs.Prelude.{◌<◌, ◌≤◌, IfSome};
 ghost use Rattle.tw_types.specs.Ranges.{IntervalFits, EchoFits, DatagramFits};
 
 use crate::{Core, Event};
+use arrayvec::ArrayVec;
 use std::alloc::Global;
 use std::mem::size_of;
 use std::test::Fail;
 use tw_num::{Interval, WantOfMemory};
 use tw_types::{
-    Answer, Body, Datagram, Echo, Head, Mode, Outputs, Reason, Team, UpdateId, Want, WireFault,
+    Answer, Atom, Body, Datagram, Echo, Entry, Head, Kept, Mode, Order, Outputs, ProposeFault,
+    Reason, Team, UpdateId, Want, WireFault,
 };
 use wire_body::write;
 
@@ -405,35 +407,44 @@ fn started_again(rt: HostRuntime) -> Result<(), Fail> {
     Ok(())
 }
 
-/// A seat of a process that started at 699990, with the support of this moment.
-fn seat(who: u8, at: u32) -> [Field; 6] {
+/// The life of all processes that the decisions below speak of.
+const LIFE: u64 = 699_990;
+
+/// A seat that awaits the number `next`, with the support of this moment.
+fn seat(who: u8, next: u32, at: u32) -> [Field; 6] {
     [
         Field::One(who),
-        Field::Eight(699_990),
-        Field::Four(1),
+        Field::Eight(LIFE),
+        Field::Four(next),
         Field::One(1),
         Field::Eight(0),
         Field::Eight(at.into()),
     ]
 }
 
-/// An update of process 1.
-fn update(seq: u32) -> UpdateId {
+fn id(who: u8, incarnation: u64, seq: u32) -> UpdateId {
     UpdateId {
-        who: 1,
-        incarnation: 699_990,
+        who,
+        incarnation,
         seq,
     }
 }
 
-/// Decision 7.`turn` of this maker at `made`, from position `low` on, with so many updates of process 1, as it is sent to process 0.
-fn decision(
+/// An update of process 1.
+fn update(seq: u32) -> UpdateId {
+    id(1, LIFE, seq)
+}
+
+/// Decision 7.`turn` of this maker at `made`, as it is sent to process 0. From position `low` on it has these updates, which are
+/// timed ones that came late, each stamped with its number; its seats await the number `next`.
+fn decision_of(
     alloc: Global,
     turn: u8,
     maker: u8,
     made: u32,
     low: u8,
-    updates: u8,
+    next: u32,
+    updates: &[UpdateId],
 ) -> Result<Vec<u8>, WantOfMemory> {
     let mut body = Vec::new(alloc);
     body.extend_from_slice(&[Field::Eight(7), Field::Eight(turn.into())])?;
@@ -441,15 +452,45 @@ fn decision(
     body.extend_from_slice(&[Field::Eight(low.into()), Field::Eight(0)])?;
     body.extend_from_slice(&[Field::One(0), Field::Four(0), Field::One(3)])?;
     for who in 0..3 {
-        body.extend_from_slice(&seat(who, made))?;
+        body.extend_from_slice(&seat(who, next, made))?;
     }
-    body.extend_from_slice(&[Field::One(maker), Field::One(updates)])?;
-    for seq in 0..updates {
-        let id = update(u32::from(seq) + 1);
+    let count = u8::try_from(updates.len()).unwrap_or(255);
+    body.extend_from_slice(&[Field::One(maker), Field::One(count)])?;
+    for id in updates {
         body.extend_from_slice(&[Field::One(id.who), Field::Eight(id.incarnation)])?;
-        body.extend_from_slice(&[Field::Four(id.seq), Field::One(3), Field::Eight(0)])?;
+        body.extend_from_slice(&[Field::Four(id.seq), Field::One(22)])?;
+        body.push(Field::Eight(id.seq.into()))?;
     }
     packet(alloc, 2, maker, 0, Some(made), &body)
+}
+
+/// Such a decision with so many updates of process 1. The one at position 0 is its first.
+fn decision(
+    alloc: Global,
+    turn: u8,
+    maker: u8,
+    made: u32,
+    low: u8,
+    count: u8,
+) -> Result<Vec<u8>, WantOfMemory> {
+    let mut updates = Vec::new(alloc);
+    for place in 0..count {
+        updates.push(update(u32::from(low) + u32::from(place) + 1))?;
+    }
+    decision_of(alloc, turn, maker, made, low, 1, &updates)
+}
+
+/// Process 0 in this life, which knows its time and promised group 7.
+fn of_group_seven(alloc: Global, out: &mut Outputs) -> Result<Core, WantOfMemory> {
+    let mut core = Core::new(alloc, TEAM, 0, Mode::First, LIFE)?;
+    let time = Event::Reference {
+        lo: 700_000,
+        hi: 700_000,
+    };
+    let _ = core.step(time, 700_000, out);
+    let call = election(alloc, 1, 0, 7, Some(701_000))?;
+    let _ = core.step(Event::Packet(&call), 701_000, out);
+    Ok(core)
 }
 
 /// Whether the process is told to ask this one, and no other, for the first update of process 1.
@@ -466,7 +507,19 @@ fn asks_for_the_first(out: &Outputs, asked: Option<u8>) -> bool {
     asks == asked
 }
 
-/// Whether the process answers so to the bytes at `h`, and asks this process, or none, for the first update of process 1.
+/// Whether the process answers so to the bytes at `h`.
+fn takes(
+    core: &mut Core,
+    out: &mut Outputs,
+    h: u32,
+    datagram: &[u8],
+    reason: Option<Reason>,
+) -> bool {
+    let answer = core.step(Event::Packet(datagram), h.into(), out);
+    answer == reason.map_or(Answer::Done, Answer::Dropped)
+}
+
+/// Whether it does, and asks this process, or none, for the first update of process 1.
 fn answers(
     core: &mut Core,
     out: &mut Outputs,
@@ -475,8 +528,7 @@ fn answers(
     reason: Option<Reason>,
     asked: Option<u8>,
 ) -> bool {
-    let answer = core.step(Event::Packet(datagram), h.into(), out);
-    answer == reason.map_or(Answer::Done, Answer::Dropped) && asks_for_the_first(out, asked)
+    takes(core, out, h, datagram, reason) && asks_for_the_first(out, asked)
 }
 
 /// The same of a tick.
@@ -491,17 +543,7 @@ fn ticks(core: &mut Core, out: &mut Outputs, h: u32, asked: Option<u8>) -> bool 
 fn held_decisions(rt: HostRuntime) -> Result<(), Fail> {
     let alloc = rt.alloc();
     let mut out = Outputs::new(alloc)?;
-    let mut core = Core::new(alloc, TEAM, 0, Mode::First, 699_990)?;
-    let _ = core.step(
-        Event::Reference {
-            lo: 700_000,
-            hi: 700_000,
-        },
-        700_000,
-        &mut out,
-    );
-    let call = election(alloc, 1, 0, 7, Some(701_000))?;
-    assert!(rt; answers(&mut core, &mut out, 701_000, &call, None, None));
+    let mut core = of_group_seven(alloc, &mut out)?;
     let missing = Some(Reason::Missing(update(1)));
     let before = [
         (713_000, 1, 2, 0, 0, None, None),
@@ -531,19 +573,263 @@ fn held_decisions(rt: HostRuntime) -> Result<(), Fail> {
     Ok(())
 }
 
-/// An update without a payload, what asks for a table, and a piece of content of one byte.
-const UPDATE: [Field; 7] = [
-    Field::One(0),
-    Field::Eight(5),
-    Field::Four(1),
-    Field::One(3),
-    Field::Eight(5),
-    Field::One(0),
-    Field::One(0),
-];
+/// An update as its sender sends it: timed and weak, and stamped with its number.
+fn as_sent(id: UpdateId) -> Kept {
+    let mut payload = ArrayVec::new();
+    payload.push(9);
+    Kept {
+        entry: Entry {
+            id,
+            order: Order::Timed,
+            atom: Atom::Weak,
+            stamp: id.seq.into(),
+            late: false,
+        },
+        early: false,
+        payload,
+    }
+}
 
-const ASK: [Field; 2] = [Field::One(1), Field::Eight(7)];
+/// Whether process 0 answers so to these updates, one after the other, which process 1 sends. They tell nothing of time.
+fn updates_come(
+    alloc: Global,
+    core: &mut Core,
+    out: &mut Outputs,
+    h: u32,
+    rows: &[(UpdateId, Option<Reason>)],
+) -> Result<bool, WantOfMemory> {
+    for (id, reason) in rows {
+        let mut body = Vec::new(alloc);
+        body.extend_from_slice(&[Field::One(id.who), Field::Eight(id.incarnation)])?;
+        body.extend_from_slice(&[Field::Four(id.seq), Field::One(6)])?;
+        body.extend_from_slice(&[Field::Eight(id.seq.into()), Field::One(0)])?;
+        body.extend_from_slice(&[Field::One(1), Field::One(9)])?;
+        let datagram = packet(alloc, 1, 1, 0, None, &body)?;
+        if !takes(core, out, h, &datagram, *reason) {
+            return Ok(false);
+        }
+    }
+    Ok(true)
+}
 
+/// How long the process's list is.
+fn length(core: &mut Core, h: u32) -> u64 {
+    core.look(h.into()).length
+}
+
+/// An update that fills a hole is taken whoever sent it. Else its sender's seat is asked for first, then whether it is known, as
+/// each one of the process's own life is, and then its number.
+#[test]
+fn updates_that_come(rt: HostRuntime) -> Result<(), Fail> {
+    let alloc = rt.alloc();
+    let mut out = Outputs::new(alloc)?;
+    let mut core = of_group_seven(alloc, &mut out)?;
+    let without_seats = [
+        (id(0, LIFE, 1), Some(Reason::NotMember)),
+        (update(1), Some(Reason::NotMember)),
+    ];
+    assert!(rt; updates_come(alloc, &mut core, &mut out, 712_000, &without_seats)?);
+    let first = decision_of(alloc, 1, 1, 713_000, 0, 3, &[])?;
+    assert!(rt; takes(&mut core, &mut out, 713_000, &first, None));
+    let seated = [
+        (id(0, LIFE, 3), Some(Reason::Old)),
+        (id(0, LIFE, 11), Some(Reason::Old)),
+        (id(0, 5, 3), Some(Reason::NotMember)),
+        (id(2, 5, 4), Some(Reason::NotMember)),
+        (update(2), Some(Reason::Old)),
+        (update(3), None),
+        (update(3), Some(Reason::Old)),
+        (update(10), None),
+        (update(11), Some(Reason::OutOfWindow)),
+    ];
+    assert!(rt; updates_come(alloc, &mut core, &mut out, 713_100, &seated)?);
+    let wanted = [id(2, 5, 4), update(2), update(11), id(0, LIFE, 3)];
+    let second = decision_of(alloc, 2, 1, 713_200, 0, 3, &wanted)?;
+    let missing = Some(Reason::Missing(id(2, 5, 4)));
+    assert!(rt; takes(&mut core, &mut out, 713_200, &second, missing));
+    let holes = [
+        (id(0, LIFE, 3), None),
+        (id(0, LIFE, 3), Some(Reason::Old)),
+        (update(11), None),
+        (update(2), None),
+    ];
+    assert!(rt; updates_come(alloc, &mut core, &mut out, 713_300, &holes)?);
+    assert_eq!(rt; length(&mut core, 713_300), 0);
+    assert!(rt; updates_come(alloc, &mut core, &mut out, 713_300, &[(id(2, 5, 4), None)])?);
+    assert_eq!(rt; length(&mut core, 713_300), 4);
+    Ok(())
+}
+
+/// Whether this update, or none, is sent, and to process 2 alone.
+fn gives(out: &Outputs, wanted: Option<&Kept>) -> bool {
+    let mut given = None;
+    for (to, datagram) in out.sends.as_slice() {
+        if let Body::Update(kept) = &datagram.body {
+            if given.is_some() || *to != 2 {
+                return false;
+            }
+            given = Some(kept);
+        }
+    }
+    given == wanted
+}
+
+/// Whether process 0 answers process 2, which asks for these updates and tells nothing of time, with those that it has, as they were
+/// sent first.
+fn questions_come(
+    alloc: Global,
+    core: &mut Core,
+    out: &mut Outputs,
+    h: u32,
+    rows: &[(UpdateId, bool)],
+) -> Result<bool, WantOfMemory> {
+    for (id, is_here) in rows {
+        let asked = [
+            Field::One(0),
+            Field::One(id.who),
+            Field::Eight(id.incarnation),
+        ];
+        let mut body = Vec::new(alloc);
+        body.extend_from_slice(&asked)?;
+        body.push(Field::Four(id.seq))?;
+        let question = packet(alloc, 6, 2, 0, None, &body)?;
+        let sent = as_sent(*id);
+        let (reason, wanted) = if *is_here {
+            (None, Some(&sent))
+        } else {
+            (Some(Reason::NotHeld), None)
+        };
+        if !takes(core, out, h, &question, reason) || !gives(out, wanted) {
+            return Ok(false);
+        }
+    }
+    Ok(true)
+}
+
+/// An update is found in the list, where it came late, among those that wait, and with a decision that is held. It goes back as its
+/// sender sent it.
+#[test]
+fn questions_for_updates(rt: HostRuntime) -> Result<(), Fail> {
+    let alloc = rt.alloc();
+    let mut out = Outputs::new(alloc)?;
+    let mut core = of_group_seven(alloc, &mut out)?;
+    let nothing = decision_of(alloc, 1, 1, 713_000, 0, 1, &[])?;
+    assert!(rt; takes(&mut core, &mut out, 713_000, &nothing, None));
+    assert!(rt; updates_come(alloc, &mut core, &mut out, 713_100, &[(update(1), None)])?);
+    let late = decision_of(alloc, 2, 1, 713_200, 0, 2, &[update(1)])?;
+    assert!(rt; takes(&mut core, &mut out, 713_200, &late, None));
+    assert!(rt; updates_come(alloc, &mut core, &mut out, 713_300, &[(update(2), None)])?);
+    let wanted = [update(1), id(2, 5, 1), id(2, 5, 2)];
+    let held = decision_of(alloc, 3, 1, 713_400, 0, 2, &wanted)?;
+    let missing = Some(Reason::Missing(id(2, 5, 1)));
+    assert!(rt; takes(&mut core, &mut out, 713_400, &held, missing));
+    assert!(rt; updates_come(alloc, &mut core, &mut out, 713_500, &[(id(2, 5, 1), None)])?);
+    let rows = [
+        (update(1), true),
+        (update(2), true),
+        (id(2, 5, 1), true),
+        (id(2, 5, 2), false),
+        (update(3), false),
+    ];
+    assert!(rt; questions_come(alloc, &mut core, &mut out, 713_600, &rows)?);
+    Ok(())
+}
+
+/// A list of 33 entries grows to 64 by one decision, and no further while nothing is passed.
+#[test]
+fn a_list_is_full(rt: HostRuntime) -> Result<(), Fail> {
+    let alloc = rt.alloc();
+    let mut out = Outputs::new(alloc)?;
+    let mut core = of_group_seven(alloc, &mut out)?;
+    let rows = [
+        (713_001, 0, Some(Reason::Missing(update(1))), 1, 32),
+        (713_002, 1, Some(Reason::Missing(update(33))), 33, 33),
+        (713_003, 33, Some(Reason::Behind), 34, 33),
+        (713_004, 32, Some(Reason::Missing(update(34))), 34, 64),
+        (713_005, 33, Some(Reason::Behind), 65, 64),
+    ];
+    let mut turn = 0;
+    for (h, low, reason, first, last) in rows {
+        turn = u8::saturating_add(turn, 1);
+        let datagram = decision(alloc, turn, 1, h, low, 32)?;
+        assert!(rt; takes(&mut core, &mut out, h, &datagram, reason), "at {h}");
+        for seq in first..=last {
+            assert!(rt; updates_come(alloc, &mut core, &mut out, h, &[(update(seq), None)])?);
+        }
+        assert_eq!(rt; length(&mut core, h), last.into());
+    }
+    Ok(())
+}
+
+/// What the process answers where it is to send so many bytes.
+fn send(core: &mut Core, out: &mut Outputs, h: u32, payload: &[u8]) -> Result<u32, ProposeFault> {
+    core.propose(h.into(), Order::Total, Atom::Weak, payload, out)
+}
+
+/// The same for 129 bytes, 128 and none, one after the other.
+fn send_sizes(core: &mut Core, out: &mut Outputs, h: u32) -> [Result<u32, ProposeFault>; 3] {
+    [
+        send(core, out, h, &[9; 129]),
+        send(core, out, h, &[9; 128]),
+        send(core, out, h, &[]),
+    ]
+}
+
+/// Whether the process sends updates of these numbers, one after the other, and then refuses for this.
+fn sends_until(
+    core: &mut Core,
+    out: &mut Outputs,
+    h: u32,
+    first: u32,
+    last: u32,
+    fault: ProposeFault,
+) -> bool {
+    for seq in first..=last {
+        if send(core, out, h, &[9]) != Ok(seq) {
+            return false;
+        }
+    }
+    send(core, out, h, &[9]) == Err(fault)
+}
+
+/// Too many bytes are told first, also where the process isn't up. Eight numbers from the one that its seat awaits may be sent, and
+/// the greatest is 4294967294.
+#[test]
+fn sends(rt: HostRuntime) -> Result<(), Fail> {
+    let alloc = rt.alloc();
+    let mut out = Outputs::new(alloc)?;
+    let mut core = of_group_seven(alloc, &mut out)?;
+    let long = Err(ProposeFault::TooLong);
+    let down = Err(ProposeFault::NotUpToDate);
+    assert!(rt; send_sizes(&mut core, &mut out, 712_000) == [long, down, down]);
+    let first = decision_of(alloc, 1, 1, 713_001, 0, 1, &[])?;
+    assert!(rt; takes(&mut core, &mut out, 713_001, &first, None));
+    assert!(rt; send_sizes(&mut core, &mut out, 713_001) == [long, Ok(1), Ok(2)]);
+    assert!(rt; sends_until(&mut core, &mut out, 713_001, 3, 8, ProposeFault::Full));
+    let rows = [
+        (2, 713_002, 2, 9, 9, ProposeFault::Full),
+        (3, 713_003, 4_294_967_295, 1, 0, ProposeFault::Spent),
+        (
+            4,
+            713_004,
+            4_294_967_294,
+            4_294_967_294,
+            4_294_967_294,
+            ProposeFault::Spent,
+        ),
+    ];
+    for (turn, h, next, first, last, fault) in rows {
+        let datagram = decision_of(alloc, turn, 1, h, 0, next, &[])?;
+        let is_taken = takes(&mut core, &mut out, h, &datagram, None);
+        assert!(rt;
+            is_taken && sends_until(&mut core, &mut out, h, first, last, fault),
+            "at {h}"
+        );
+    }
+    Ok(())
+}
+
+/// A piece of content of one byte.
 const STATE: [Field; 9] = [
     Field::Eight(7),
     Field::Eight(0),
@@ -598,19 +884,18 @@ fn kinds_that_are_not_taken(rt: HostRuntime) -> Result<(), Fail> {
     let alloc = rt.alloc();
     for (who, from) in [(1, 0), (2, 0), (1, 3), (1, 1)] {
         let answers = [
-            answer_of(alloc, who, from, 1, &UPDATE, &[])?,
             answer_of(alloc, who, from, 3, &ROUND, &GROUP)?,
-            answer_of(alloc, who, from, 6, &ASK, &[])?,
             answer_of(alloc, who, from, 7, &STATE, &[])?,
         ];
         let unknown = Answer::Dropped(Reason::Wire(WireFault::Kind));
-        assert_eq!(rt; answers, [unknown; 4]);
+        assert_eq!(rt; answers, [unknown; 2]);
     }
     Ok(())
 }
 
-/// A core has room for all that a process keeps, far below the 200 KB that it may take.
+/// A core and the room that it takes where it is made, for the updates that wait, for the payloads of a held decision, of which
+/// there are two sets, and for the end of the list, are far below the 200 KB that they may take together.
 #[test]
 fn a_core_is_small(rt: HostRuntime) {
-    assert!(rt; size_of::<Core>() < 200_000);
+    assert!(rt; size_of::<(Core, [Kept; 120], [[Kept; 32]; 2], [Kept; 64])>() < 200_000);
 }

@@ -192,6 +192,24 @@ impl Oal {
     }
 }
 
+impl Payloads for Oal {
+    ghost use Rattle.std.specs.Prelude.{◌≡◌};
+    ghost use Rattle.std.specs.Option.{option_copied};
+    ghost use Rattle.tw_types.specs.Updates.{find_update};
+
+    ghost payloads = { λ o. o.kept };
+
+    /// The first of the last 64 entries that has the id.
+    fn find(&self, id: &UpdateId) -> Option<&Kept>
+        ensures exact { option_copied result ≡ find_update id.now self.now.kept }
+    {
+        self.kept
+            .as_slice()
+            .iter()
+            .find(|kept| kept.entry.id == *id)
+    }
+}
+
 /// The entries of a decision's window at this position and behind it.
 fn entries_from(position: u64, d: &Decision) -> &[Entry]
     requires low { d.now.low ≤ position }

@@ -38,6 +38,7 @@ returns-clause-stands c = λ team r s.
         log = s.process.log;
         waiting = s.process.waiting;
         hold = s.process.hold;
+        next_seq = s.process.next_seq;
       };
       given = s.given;
     })))
@@ -68,4 +69,5 @@ returns-clause-fits c = record {
   length = c.requires.fits.length;
   log = c.requires.fits.log;
   waiting = c.requires.fits.waiting;
+  updates = c.requires.fits.updates;
 }

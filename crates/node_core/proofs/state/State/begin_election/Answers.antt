@@ -26,6 +26,7 @@ returns-in-Some-clause-stands c = λ team r s.
         log = s.process.log;
         waiting = s.process.waiting;
         hold = s.process.hold;
+        next_seq = s.process.next_seq;
       };
       given = s.given;
     })))
@@ -49,4 +50,5 @@ returns-in-Some-clause-fits c = record {
   length = c.requires.fits.length;
   log = c.requires.fits.log;
   waiting = c.requires.fits.waiting;
+  updates = c.requires.fits.updates;
 }

@@ -9,6 +9,6 @@ returns-then-is_due-clause-stands c = λ team r s.
     let marked : Run = beat_marked c.args.now.now.h r in
     rw due (c.give_signs.ensures.stands team (repeat_decision team c.args.now.now (ask_again c.args.now.now marked)) (c.repeat_decision.ensures.stands team (ask_again c.args.now.now marked) (c.ask_again.ensures.stands team marked (record {
       same_team = s.same_team;
-      process = record { identity = s.process.identity; timing = s.process.timing; beat = refl; vote = s.process.vote; ballot = s.process.ballot; belief = s.process.belief; log = s.process.log; waiting = s.process.waiting; hold = s.process.hold };
+      process = record { identity = s.process.identity; timing = s.process.timing; beat = refl; vote = s.process.vote; ballot = s.process.ballot; belief = s.process.belief; log = s.process.log; waiting = s.process.waiting; hold = s.process.hold; next_seq = s.process.next_seq };
       given = s.given;
     }))))

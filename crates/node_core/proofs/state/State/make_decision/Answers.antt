@@ -18,6 +18,7 @@ returns-clause-stands c = λ team before reports r s. c.send_to_others.ensures.s
     log = s.process.log;
     waiting = s.process.waiting;
     hold = s.process.hold;
+    next_seq = s.process.next_seq;
   });
   given = ap (λ (d : Decision). record (c.args.out.now) { made = Some d }) c.copy.ensures ∙ ap (λ (o : Outputs). record o { made = Some c.args.d }) s.given;
 })

@@ -7,12 +7,13 @@ use Rattle.tw_types.specs.Process.{Process}
 use Rattle.tw_machine.specs.Event.{Event}
 use Rattle.tw_machine.specs.Rules.{rule}
 use Rattle.tw_machine.specs.Duties.{duties}
-use Rattle.tw_machine.specs.Step.{learnt_by, moment_of, read_by, ruled_by, answer_by, step}
+use Rattle.tw_machine.specs.Run.{Ruled, Ended}
+use Rattle.tw_machine.specs.Step.{learnt_by, moment_of, read_by, ruled_by, answer_by, row_answer, ended, step}
 use Rattle.tw_machine.proofs.Steps.{learnt_not_before, step_answer}
 use Rattle.node_core.specs.Events.{event_seen}
 use Rattle.node_core.specs.Inbox.{packet_in}
 use Rattle.node_core.specs.StandsFor.{StandsFor, TimingStandsFor, RunStandsFor}
-use Rattle.node_core.proofs.Steps.{read_stands, step_stands}
+use Rattle.node_core.proofs.Steps.{packet_rule, read_stands, step_stands}
 use Rattle.node_core.proofs.state.State.step.Goals as goal
 use Rattle.node_core.proofs.state.State.step.Goals.{then-has_duties, else-has_duties}
 
@@ -44,19 +45,21 @@ begins c p s known =
 -- the rule
 record IsRuled (c : goal.After-answer) (p : Process) : Type 0 where
   stands : RunStandsFor c.args.self.now.team c.rule-dropped.new.self c.rule-dropped.new.out (ruled_by c.args.self.now.team c.args.h (event c) p).run
-  dropped : c.rule-dropped.result ≡ (ruled_by c.args.self.now.team c.args.h (event c) p).dropped
+  answer : row_answer (answer_by c.rule-dropped.result) ≡ (ruled_by c.args.self.now.team c.args.h (event c) p).answer
 
 ruled : (c : goal.After-answer) (p : Process) → StandsFor c.args.self.now p → IsNotBefore c.args.h p.timing.clock → IsRuled c p
 ruled c p s known =
     let team = c.args.self.now.team in
     let before = begins c p s known in
     let read = read_by team c.args.h (event c) p in
-    let begun = read_stands team c.args.self.now _ c.args.h (event c) p _ s refl refl refl refl refl refl refl refl refl before.timing c.requires.empty in
+    let begun = read_stands team c.args.self.now _ c.args.h (event c) p _ s refl refl refl refl refl refl refl refl refl refl before.timing c.requires.empty in
+    let by_packet : Ruled = rule team (moment_of team c.args.h (event c) p) (learnt_by team c.args.h (event c) p).packet read in
+    let is : ruled_by team c.args.h (event c) p ≡ ended by_packet = packet_rule team c.args.event (moment_of team c.args.h (event c) p) (learnt_by team c.args.h (event c) p).packet read in
     record {
-      stands = subst (λ (k : Result (Option Datagram) Reason). RunStandsFor team c.rule-dropped.new.self c.rule-dropped.new.out (rule team (moment_of team c.args.h (event c) p) k read).run) before.packet
-          (subst (λ (m : Moment). RunStandsFor team c.rule-dropped.new.self c.rule-dropped.new.out (rule team m (packet c) read).run) before.moment (c.rule-dropped.ensures.stands team read begun));
-      dropped = c.rule-dropped.ensures.dropped team read begun ∙ ap (λ (m : Moment). (rule team m (packet c) read).dropped) before.moment
-          ∙ ap (λ (k : Result (Option Datagram) Reason). (rule team (moment_of team c.args.h (event c) p) k read).dropped) before.packet;
+      stands = rw is (subst (λ (k : Result (Option Datagram) Reason). RunStandsFor team c.rule-dropped.new.self c.rule-dropped.new.out (rule team (moment_of team c.args.h (event c) p) k read).run) before.packet
+          (subst (λ (m : Moment). RunStandsFor team c.rule-dropped.new.self c.rule-dropped.new.out (rule team m (packet c) read).run) before.moment (c.rule-dropped.ensures.stands team read begun)));
+      answer = ap (λ (o : Option Reason). row_answer (answer_by o)) (c.rule-dropped.ensures.dropped team read begun ∙ ap (λ (m : Moment). (rule team m (packet c) read).dropped) before.moment
+          ∙ ap (λ (k : Result (Option Datagram) Reason). (rule team (moment_of team c.args.h (event c) p) k read).dropped) before.packet) ∙ sym (ap (λ (k : Ended). k.answer) is);
     }
 
 -- the duties, and the whole
@@ -76,7 +79,7 @@ pub returns-clause-stands : goal.returns-clause-stands
 returns-clause-stands c = λ p s known. (stepped c p s known).0
 
 pub returns-clause-answer : goal.returns-clause-answer
-returns-clause-answer c = λ p s known. c.answer.ensures ∙ ap answer_by (ruled c p s known).dropped ∙ sym (step_answer c.args.self.now.team c.args.h (event c) p)
+returns-clause-answer c = λ p s known. ap row_answer c.answer.ensures ∙ (ruled c p s known).answer ∙ sym (step_answer c.args.self.now.team c.args.h (event c) p)
 
 pub returns-clause-out : goal.returns-clause-out
 returns-clause-out c = λ p s known. (stepped c p s known).1

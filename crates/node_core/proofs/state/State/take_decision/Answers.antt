@@ -1,11 +1,11 @@
-use Rattle.std.proofs.Common.{◌≡◌, ◌∙◌, refl, sym, Some, None}
+use Rattle.std.proofs.Common.{arith, ◌≡◌, ◌∙◌, refl, sym, Some, None}
 use Rattle.tw_types.specs.Refusals.{first_refusal}
 use Rattle.tw_machine.specs.Taking.{decision_tests}
 use Rattle.node_core.proofs.Concerns.{if_none, wanted_is, unwanted_is}
 use Rattle.node_core.proofs.state.State.take_decision.Goals as goal
 
 pub enter_decision-requires-clause-promised : goal.enter_decision-requires-clause-promised
-enter_decision-requires-clause-promised c = if_none c.refuse_decision.result _ c.in_default.is c.refuse_decision.ensures.promised
+enter_decision-requires-clause-promised c = let same : c.args.d.now.group ≡ c.args.self.now.vote.promised = if_none c.refuse_decision.result _ c.in_default.is c.refuse_decision.ensures.promised in omega (arith, same)
 
 pub returns-in-Some-clause-stands : goal.returns-in-Some-clause-stands
 returns-in-Some-clause-stands c = λ team r s.

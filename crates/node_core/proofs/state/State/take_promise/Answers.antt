@@ -31,4 +31,5 @@ returns-then-add-clause-fits c =
       length = c.requires.fits.length;
       log = c.requires.fits.log;
       waiting = c.requires.fits.waiting;
+      updates = c.requires.fits.updates;
     }

@@ -1,6 +1,6 @@
--- Lines that a replay takes as a step's, texts that are each of the things that a text may be, and others that aren't, worked out by
+-- Lines that are a step's, texts that are each of the things that a text may be, and others that aren't, worked out by
 -- hand.
-use Rattle.std.proofs.Common.{◌≡◌, refl, ap, inl, inr, ℕ, zero, suc, ◌+◌, arith, false, true, List, [], ◌∷◌, length, None}
+use Rattle.std.proofs.Common.{◌≡◌, refl, ap, inl, inr, ℕ, zero, suc, ◌+◌, arith, true, List, [], ◌∷◌, length, None, Some}
 use Rattle.std.specs.Prelude.{codes, nat_le}
 use Rattle.std.specs.Fmt.{digits}
 use Rattle.std.specs.List.{list_all}
@@ -9,16 +9,14 @@ use Rattle.tw_types.specs.declared.team.TeamFault.TheVariants.{Size}
 use Rattle.tw_types.specs.Examples.{team_a}
 use Rattle.tw_types.specs.declared.step.Act.{Act}
 use Rattle.tw_types.specs.declared.step.Step.{Step}
-use Rattle.tw_types.specs.declared.step.Act.TheVariants.{First, Crash, Send, Reference, Look}
+use Rattle.tw_types.specs.declared.step.Act.TheVariants.{First, Crash, Reference, Look}
 use Rattle.tw_types.specs.declared.step.Cause.TheVariants.{Time}
-use Rattle.tw_types.specs.declared.message.Order.TheVariants.{Total}
-use Rattle.tw_types.specs.declared.message.Atom.TheVariants.{Weak}
 use Rattle.schedule_text.specs.declared.status.Status.TheVariants as status
-use Rattle.tw_machine.specs.Grammar.{IsTeamLine}
+use Rattle.tw_machine.specs.Grammar.{IsTeamLine, IsStepLine}
 use Rattle.tw_machine.specs.Admissible.{cause_of, each_own, is_running, keeps_drift}
 use Rattle.tw_machine.specs.Dispatches.{Dispatch}
 use Rattle.tw_machine.specs.World.{world, Admissible}
-use Rattle.replayer.specs.Replay.{lines_of, step_limit, IsTakenLine, Spells, Verdict, Whole, Faulty, BadLine, Endless, IsVerdict, status_of}
+use Rattle.replayer.specs.Replay.{lines_of, step_limit, Spells, Verdict, Whole, Faulty, BadLine, Endless, IsVerdict, status_of}
 use Rattle.replayer.specs.Statuses.{IsGood, HasFaultyTeam, HasBadLine, HasTooMany, IsBadSchedule}
 use Rattle.replayer.specs.Answers.{GaveUp}
 use Rattle.replayer.proofs.Verdicts.{verdict_once}
@@ -29,39 +27,29 @@ step who act = record { t = 5; who = who; h = 6; act = act }
 short : length (codes "5 2 6 ref 7 9") ≡ 13
 short = refl
 
-taken : IsTakenLine 3 (codes "5 2 6 ref 7 9") (step 2 (Reference 7 9))
+taken : IsStepLine 3 (codes "5 2 6 ref 7 9") (step 2 (Reference 7 9))
 unfolding digits
-taken = record {
-  spelled = record { text = refl; t = omega arith; who = omega arith; h = omega arith; act = (omega arith, omega arith); fits = omega (arith, short) };
-  built = refl;
-}
+taken = record { text = refl; t = omega arith; who = omega arith; h = omega arith; act = (omega arith, omega arith); fits = omega (arith, short) }
 
 -- of a process that isn't of the team
-no_process : IsTakenLine 3 (codes "5 3 6 first") (step 3 First) → ⊥
-no_process line = omega (arith, line.spelled.who)
+no_process : IsStepLine 3 (codes "5 3 6 first") (step 3 First) → ⊥
+no_process line = omega (arith, line.who)
 
 -- with its ends in the other order
-ends_crossed : IsTakenLine 3 (codes "5 2 6 ref 9 7") (step 2 (Reference 9 7)) → ⊥
-ends_crossed line = omega (arith, line.spelled.act.0)
+ends_crossed : IsStepLine 3 (codes "5 2 6 ref 9 7") (step 2 (Reference 9 7)) → ⊥
+ends_crossed line = omega (arith, line.act.0)
 
 -- with a zero in front of a number
-leading_zero : IsTakenLine 3 (codes "05 2 6 first") (step 2 First) → ⊥
+leading_zero : IsStepLine 3 (codes "05 2 6 first") (step 2 First) → ⊥
 unfolding digits
-leading_zero line = let longer : 12 ≡ 11 = ap length line.spelled.text in omega (arith, longer)
+leading_zero line = let longer : 12 ≡ 11 = ap length line.text in omega (arith, longer)
 
 crash_short : length (codes "5 2 6 crash") ≡ 11
 crash_short = refl
 
-crash_taken : IsTakenLine 3 (codes "5 2 6 crash") (step 2 Crash)
+crash_taken : IsStepLine 3 (codes "5 2 6 crash") (step 2 Crash)
 unfolding digits
-crash_taken = record {
-  spelled = record { text = refl; t = omega arith; who = omega arith; h = omega arith; act = tt; fits = omega (arith, crash_short) };
-  built = refl;
-}
-
--- of an act that isn't taken yet
-not_taken_yet : (payload : _) → IsTakenLine 3 (codes "5 2 6 send total weak -") (step 2 (Send Total Weak payload)) → ⊥
-not_taken_yet payload line = let built : false ≡ true = line.built in cc
+crash_taken = record { text = refl; t = omega arith; who = omega arith; h = omega arith; act = tt; fits = omega (arith, crash_short) }
 
 -- ---- statuses and counts
 
@@ -106,29 +94,20 @@ at t act = record { t = t; who = 0; h = 5; act = act }
 first_short : length (codes "5 0 5 first") ≡ 11
 first_short = refl
 
-first_taken : IsTakenLine 3 (codes "5 0 5 first") (at 5 First)
+first_taken : IsStepLine 3 (codes "5 0 5 first") (at 5 First)
 unfolding digits
-first_taken = record {
-  spelled = record { text = refl; t = omega arith; who = omega arith; h = omega arith; act = tt; fits = omega (arith, first_short) };
-  built = refl;
-}
+first_taken = record { text = refl; t = omega arith; who = omega arith; h = omega arith; act = tt; fits = omega (arith, first_short) }
 
 look_short : length (codes "5 0 5 look") ≡ 10
 look_short = refl
 
-look_taken : IsTakenLine 3 (codes "5 0 5 look") (at 5 Look)
+look_taken : IsStepLine 3 (codes "5 0 5 look") (at 5 Look)
 unfolding digits
-look_taken = record {
-  spelled = record { text = refl; t = omega arith; who = omega arith; h = omega arith; act = tt; fits = omega (arith, look_short) };
-  built = refl;
-}
+look_taken = record { text = refl; t = omega arith; who = omega arith; h = omega arith; act = tt; fits = omega (arith, look_short) }
 
-early_taken : IsTakenLine 3 (codes "4 0 5 look") (at 4 Look)
+early_taken : IsStepLine 3 (codes "4 0 5 look") (at 4 Look)
 unfolding digits
-early_taken = record {
-  spelled = record { text = refl; t = omega arith; who = omega arith; h = omega arith; act = tt; fits = omega (arith, look_short) };
-  built = refl;
-}
+early_taken = record { text = refl; t = omega arith; who = omega arith; h = omega arith; act = tt; fits = omega (arith, look_short) }
 
 -- a start and a look
 abbrev good_text : List (List ℕ)

@@ -43,7 +43,7 @@ one_more team steps rest line after rows later w new row g first few takes writt
       within = omega arith;
       cut = λ more go.
           let before = g.cut more go in
-          let next = good_line (length g.past + 1) rest line after more first before.0 takes.1.spelled.fits (omega arith) in
+          let next = good_line (length g.past + 1) rest line after more first before.0 takes.1.fits (omega arith) in
           (rw (grown takes.0 g.past) next.1, (line, takes.1, rw next.0 at before.1));
     }
   where
@@ -85,8 +85,8 @@ at_limit team steps rest rows w g some full first more line sound go =
 
 -- a line that is too long is no line of a step, whatever follows it
 longer_is_bad : (team : Team) (past : List Step) (line whole : List ℕ) (cause : Cause) → IsBadLine team past line cause → line_limit < length line → line_limit < length whole → IsBadLine team past whole cause
-longer_is_bad team past line whole cause (inl grammar) long longer = inl (grammar.0, λ s is. absurd (omega (arith, is.spelled.fits)))
-longer_is_bad team past line whole cause (inr stepped) long longer = absurd (omega (arith, stepped.1.spelled.fits))
+longer_is_bad team past line whole cause (inl grammar) long longer = inl (grammar.0, λ s is. absurd (omega (arith, is.fits)))
+longer_is_bad team past line whole cause (inr stepped) long longer = absurd (omega (arith, stepped.1.fits))
 
 -- a line can't be taken
 pub at_bad_line : (team : Team) (steps rest line after rows : List ℕ) (w : code.World) (cause : Cause) (g : Going team steps rest rows w) → IsFirstLine rest line after → w.steps < step_limit

@@ -1,13 +1,9 @@
--- A team in which no fault is found is sound, and the steps that lines spell are built.
+-- A team in which no fault is found is sound.
 use Rattle.std.proofs.Common.{◌≡◌, refl, ℕ, List, [], ◌∷◌, Option, Some, None, Bool, true, false, cond, arith}
-use Rattle.std.specs.List.{AllByRecursion}
 use Rattle.std.proofs.lemmas.Bool.Decides.{nat_tests}
 use Rattle.tw_types.specs.declared.team.Team.{Team}
 use Rattle.tw_types.specs.declared.team.TeamFault.{TeamFault}
 use Rattle.tw_types.specs.Team.{Tested, faults_of, first_present, fault_of, IsSound}
-use Rattle.tw_types.specs.declared.step.Step.{Step}
-use Rattle.tw_machine.specs.Schedule.{is_built}
-use Rattle.replayer.specs.Replay.{Spells}
 
 absent : (present : Bool) (fault : TeamFault) (rest : Option TeamFault) → cond present (Some fault) rest ≡ None → present ≡ false
 absent true fault rest e = absurd (cc)
@@ -52,7 +48,3 @@ sound_of team none = by_tests (all_absent (faults_of team) none)
       quarantine_range = let x = t.1.1.1.1.1.1.1.0 in grind (arith, nat_tests);
       theta_range = let x = t.1.1.1.1.1.1.1.0 in grind (arith, nat_tests);
     }
-
-pub spells_built : (n : ℕ) (past : List Step) (rest lines : List (List ℕ)) → Spells n past rest lines → AllByRecursion (λ (s : Step). is_built s.act ≡ true) past
-spells_built n [] rest lines spells = tt
-spells_built n (s ∷ past) rest lines spells = (spells.1.built, spells_built n past (spells.0 ∷ rest) lines spells.2)

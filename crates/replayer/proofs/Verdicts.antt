@@ -12,7 +12,7 @@ use Rattle.tw_types.specs.declared.step.Step.{Step}
 use Rattle.tw_machine.specs.Grammar.{IsTeamLine, IsStepLine}
 use Rattle.tw_machine.specs.Admissible.{cause_of}
 use Rattle.tw_machine.specs.World.{world, Admissible}
-use Rattle.replayer.specs.Replay.{step_limit, IsTakenLine, Spells, Begins, IsBadLine, Verdict, Whole, NoTeam, Faulty, BadLine, Endless, IsVerdict, status_of, text_before}
+use Rattle.replayer.specs.Replay.{step_limit, Spells, Begins, IsBadLine, Verdict, Whole, NoTeam, Faulty, BadLine, Endless, IsVerdict, status_of, text_before}
 use Rattle.replayer.specs.Cuts.{Tells}
 use Rattle.replayer.specs.Statuses.{IsGood, HasFaultyTeam, HasBadLine, HasTooMany, IsBadSchedule}
 use Rattle.tw_machine.proofs.LineLaws.{team_line_once, step_line_once}
@@ -26,12 +26,12 @@ same_length n small (s ∷ past) [] rest after lines same p q = absurd (omega ar
 same_length n small (s ∷ past) (r ∷ newer) rest after lines same p q =
     let older = same_length n small past newer (p.0 ∷ rest) (q.0 ∷ after) lines (omega arith) p.2 q.2 in
     let line : p.0 ≡ q.0 = cc in
-    let step : s ≡ r = step_line_once n q.0 s r small (subst (λ (l : List ℕ). IsStepLine n l s) line p.1.spelled) q.1.spelled in
+    let step : s ≡ r = step_line_once n q.0 s r small (subst (λ (l : List ℕ). IsStepLine n l s) line p.1) q.1 in
     (cc, cc)
 
 -- the next line is that of a step that may follow
 abbrev GoesOn : Team → List Step → List (List ℕ) → Type 0
-GoesOn team past rest = (line : List ℕ) × (later : List (List ℕ)) × (s : Step) × (rest ≡ line ∷ later) × IsTakenLine team.n line s × (cause_of team (world team past).sent past s ≡ None)
+GoesOn team past rest = (line : List ℕ) × (later : List (List ℕ)) × (s : Step) × (rest ≡ line ∷ later) × IsStepLine team.n line s × (cause_of team (world team past).sent past s ≡ None)
 
 -- of two fronts of the same lines the shorter one goes on
 shorter : (team : Team) → team.n ≤ 2 ^ 60 → (past newer : List Step) (rest after lines : List (List ℕ)) → length past < length newer
@@ -52,10 +52,10 @@ data End (team : Team) (past : List Step) (rest : List (List ℕ)) (v : Verdict)
 
 -- a line of a step that may follow can be taken
 not_bad : (team : Team) (past : List Step) (line : List ℕ) (cause : Cause) (s : Step) → team.n ≤ 2 ^ 60 → IsBadLine team past line cause
-    → IsTakenLine team.n line s → cause_of team (world team past).sent past s ≡ None → ⊥
+    → IsStepLine team.n line s → cause_of team (world team past).sent past s ≡ None → ⊥
 not_bad team past line cause s small (inl grammar) is may = grammar.1 s is
 not_bad team past line cause s small (inr stepped) is may =
-    let same : stepped.0 ≡ s = step_line_once team.n line stepped.0 s small stepped.1.spelled is.spelled in
+    let same : stepped.0 ≡ s = step_line_once team.n line stepped.0 s small stepped.1 is in
     let both : Some cause ≡ None = sym stepped.2 ∙ ap (λ (x : Step). cause_of team (world team past).sent past x) same ∙ may in
     cc
 
@@ -63,7 +63,7 @@ no_end : (team : Team) (past : List Step) (rest : List (List ℕ)) (v : Verdict)
 no_end team past rest v small low (AtEnd none e) on = let both : [] ≡ on.0 ∷ on.1 = sym none ∙ on.3 in cc
 no_end team past rest v small low (AtBad line later cause cut l bad e) on =
     let same : on.0 ≡ line = cc in
-    not_bad team past line cause on.2 small bad (subst (λ (l : List ℕ). IsTakenLine team.n l on.2) same on.4) on.5
+    not_bad team past line cause on.2 small bad (subst (λ (l : List ℕ). IsStepLine team.n l on.2) same on.4) on.5
 no_end team past rest v small low (AtLimit line later cut full e) on = absurd (omega arith)
 
 -- a line can't be taken for one cause
@@ -72,7 +72,7 @@ one_cause team past line a b small (inl p) (inl q) = p.0 ∙ sym q.0
 one_cause team past line a b small (inl p) (inr q) = absurd (p.1 q.0 q.1)
 one_cause team past line a b small (inr p) (inl q) = absurd (q.1 p.0 p.1)
 one_cause team past line a b small (inr p) (inr q) =
-    let same : p.0 ≡ q.0 = step_line_once team.n line p.0 q.0 small p.1.spelled q.1.spelled in
+    let same : p.0 ≡ q.0 = step_line_once team.n line p.0 q.0 small p.1 q.1 in
     let both : Some a ≡ Some b = sym p.2 ∙ ap (λ (x : Step). cause_of team (world team past).sent past x) same ∙ q.2 in
     cc
 

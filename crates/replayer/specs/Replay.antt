@@ -1,5 +1,5 @@
 -- What a text is as a schedule: whole and good, or where and why it stops being so.
-use Rattle.std.specs.Prelude.{ℕ, ◌+◌, ◌<◌, ◌≤◌, ◌≡◌, ◌⊎◌, ◌==◌, true, if◌then◌else◌, List, [], ◌∷◌, length, Some, None}
+use Rattle.std.specs.Prelude.{ℕ, ◌+◌, ◌<◌, ◌≤◌, ◌≡◌, ◌⊎◌, ◌==◌, if◌then◌else◌, List, [], ◌∷◌, length, Some, None}
 use Rattle.std.specs.List.{onto_first}
 use Rattle.tw_types.specs.declared.team.Team.{Team}
 use Rattle.tw_types.specs.declared.team.TeamFault.{TeamFault}
@@ -9,7 +9,6 @@ use Rattle.tw_types.specs.declared.step.Cause.TheVariants.{Grammar}
 use Rattle.schedule_text.specs.declared.status.Status.{Status}
 use Rattle.schedule_text.specs.declared.status.Status.TheVariants as status
 use Rattle.tw_types.specs.declared.step.Step.{Step}
-use Rattle.tw_machine.specs.Schedule.{is_built}
 use Rattle.tw_machine.specs.Grammar.{IsTeamLine, IsStepLine}
 use Rattle.tw_machine.specs.Admissible.{cause_of}
 use Rattle.tw_machine.specs.World.{world, Admissible}
@@ -25,15 +24,10 @@ lines_of (b ∷ bs) = if b == 10 then [] ∷ lines_of bs else onto_first b (line
 abbrev pub step_limit : ℕ
 step_limit = 100000
 
--- the line is that of this step of one of n processes, of an act that a replay takes
-pub record IsTakenLine (n : ℕ) (line : List ℕ) (s : Step) : Type 0 where
-  pub spelled : IsStepLine n line s
-  pub built : is_built s.act ≡ true
-
 -- The lines are those of the steps of one of n processes, and then the rest. The newest step stands first, its line last.
 abbrev pub Spells : ℕ → List Step → List (List ℕ) → List (List ℕ) → Type 0
 Spells n [] rest lines = lines ≡ rest
-Spells n (s ∷ past) rest lines = (line : List ℕ) × IsTakenLine n line s × Spells n past (line ∷ rest) lines
+Spells n (s ∷ past) rest lines = (line : List ℕ) × IsStepLine n line s × Spells n past (line ∷ rest) lines
 
 -- The lines are those of a sound team and of an admissible schedule of at most so many steps, and then the rest.
 pub record Begins (lines : List (List ℕ)) (team : Team) (past : List Step) (rest : List (List ℕ)) : Type 0 where
@@ -46,10 +40,10 @@ pub record Begins (lines : List (List ℕ)) (team : Team) (past : List Step) (re
   pub admissible : Admissible team past
   pub within : length past ≤ step_limit
 
--- why a line can't be the next one after a past: it is no line of a step that a replay takes, or its step may not follow
+-- why a line can't be the next one after a past: it is no line of a step, or its step may not follow
 abbrev pub IsBadLine : Team → List Step → List ℕ → Cause → Type 0
-IsBadLine team past line cause = ((cause ≡ Grammar) × ((s : Step) → IsTakenLine team.n line s → ⊥))
-    ⊎ ((s : Step) × IsTakenLine team.n line s × (cause_of team (world team past).sent past s ≡ Some cause))
+IsBadLine team past line cause = ((cause ≡ Grammar) × ((s : Step) → IsStepLine team.n line s → ⊥))
+    ⊎ ((s : Step) × IsStepLine team.n line s × (cause_of team (world team past).sent past s ≡ Some cause))
 
 -- What a text is: a whole schedule of a team, one without a team line, one whose team has a fault, one with a first line
 -- that can't be taken, one with more lines than are read.

@@ -7,7 +7,6 @@ ghost use Rattle.tw_types.specs.declared.team.Team.{Team as TeamSeen};
 ghost use Rattle.tw_machine.specs.Grammar.{IsTeamLine};
 ghost use Rattle.tw_types.specs.declared.step.Step.{Step as StepSeen};
 ghost use Rattle.tw_machine.specs.RowText.{row_text};
-ghost use Rattle.tw_machine.specs.Schedule.{is_built};
 ghost use Rattle.replayer.specs.Held.{written};
 ghost use Rattle.replayer.specs.Replay.{lines_of};
 ghost use Rattle.replayer.specs.Cuts.{MayGoOn, Tells};
@@ -21,7 +20,7 @@ use crate::held::Held;
 use schedule_text::{Cause, Status, read_step, read_team, write_row};
 use std::alloc::Global;
 use tw_num::WantOfMemory;
-use tw_types::{Act, Row, Team};
+use tw_types::{Row, Team};
 use world::{Refused, World};
 
 /// The most steps of a schedule.
@@ -41,13 +40,6 @@ enum Refusal {
     Cause(Cause),
     /// There was no memory for its step.
     WantOfMemory,
-}
-
-/// Whether a replay takes the act today.
-fn is_built(act: &Act) -> bool
-    ensures { result ≡ is_built act.now }
-{
-    !matches!(act, Act::Send { .. })
 }
 
 fn no_rows(alloc: Global, status: Status) -> Replay
@@ -70,7 +62,7 @@ fn refused_by(why: Refused) -> Refusal
     }
 }
 
-/// Takes the step that a line spells, of an act that is built, and makes `row` its row.
+/// Takes the step that a line spells, and makes `row` its row.
 fn take_line(world: &mut World, team: &Team, line: &[u8], row: &mut Row) -> Result<(), Refusal>
     requires few { world.old.steps < 100000 }
     requires team { world.old.team ≡ team.now }
@@ -84,9 +76,6 @@ fn take_line(world: &mut World, team: &Team, line: &[u8], row: &mut Row) -> Resu
     let Ok(step) = read_step(team, line) else {
         return Err(Refusal::Cause(Cause::Grammar));
     };
-    if !is_built(&step.act) {
-        return Err(Refusal::Cause(Cause::Grammar));
-    }
     match world.apply(&step, row) {
         Ok(()) => Ok(()),
         Err(why) => Err(refused_by(why)),

@@ -1,9 +1,8 @@
 -- What an act makes of a process, and what is seen of it then.
-use Rattle.std.proofs.Common.{◌≡◌, refl, sym, ap, subst, ◌∙◌, ℕ, true, false, List, Option, Some, None, Ok}
+use Rattle.std.proofs.Common.{◌≡◌, refl, sym, ap, subst, ◌∙◌, ℕ, true, false, List, Option, Some, None, IsSome, Ok}
 use Rattle.std.specs.Option.{option_map}
 use Rattle.tw_num.specs.Clock.{IsNotBefore}
 use Rattle.tw_types.specs.declared.team.Team.{Team}
-use Rattle.tw_types.specs.declared.answer.Answer.{Answer}
 use Rattle.tw_types.specs.declared.datagram.Datagram.{Datagram}
 use Rattle.tw_types.specs.declared.outputs.View.{View}
 use Rattle.tw_types.specs.declared.outputs.Outputs.{Outputs}
@@ -11,7 +10,6 @@ use Rattle.tw_types.specs.declared.outputs.Mode.TheVariants as modes
 use Rattle.tw_types.specs.declared.row.RowAnswer.{RowAnswer}
 use Rattle.tw_types.specs.declared.step.Act.{Act}
 use Rattle.tw_types.specs.declared.step.Act.TheVariants.{First, Again, Crash, Tick, Recv, Send, Reference, Look}
-use Rattle.tw_types.specs.declared.step.Act.TheVariants as acts
 use Rattle.tw_types.specs.Outputs.{nothing}
 use Rattle.tw_types.specs.Process.{Process, started}
 use Rattle.tw_types.specs.Ranges.{DatagramFits}
@@ -20,14 +18,13 @@ use Rattle.tw_types.specs.Numbered.{numbered}
 use Rattle.tw_machine.specs.Dispatches.{Dispatch}
 use Rattle.tw_machine.specs.Admissible.{runs_after, was_sent_to}
 use Rattle.tw_machine.specs.Event.{Event, Packet}
-use Rattle.tw_machine.specs.Event as machine
 use Rattle.tw_types.specs.Beliefs.{log_length}
 use Rattle.tw_types.specs.Decisions.{or_none}
 use Rattle.tw_types.specs.Flag.{is_up}
 use Rattle.tw_machine.specs.Standing.{last_decision}
 use Rattle.tw_machine.specs.Step.{step, looked, view_of}
 use Rattle.tw_machine.specs.Rows.{gone}
-use Rattle.tw_machine.specs.World.{Deed, row_answer, happen, receive, deed}
+use Rattle.tw_machine.specs.World.{Deed, happen, receive, deed}
 use Rattle.tw_machine.proofs.Clocks.{reading_again}
 use Rattle.node_core.specs.declared.state.State.{State}
 use Rattle.node_core.specs.StandsFor.{StandsFor}
@@ -35,59 +32,53 @@ use Rattle.tw_machine.proofs.Tables.{at_number}
 use Rattle.tw_machine.proofs.Steps.{step_not_before, looked_after}
 use Rattle.world.specs.declared.sent.Sent.{Sent}
 use Rattle.world.specs.Datagrams.{datagrams, kept_as, WasSendable, SentStandsFor}
-use Rattle.world.specs.Deeds.{RunsAs, IsReady, HasTaken, IsDone, IsDeed}
+use Rattle.world.specs.Deeds.{RunsAs, NotBefore, IsReady, HasTaken, IsDone, IsDeed}
 use Rattle.world.proofs.Bytes.{numbered-map}
 
 -- ---- acts
 
-pub taken_done : (team : Team) (h : ℕ) (e : Event) (new : State) (a : Answer) (out : Outputs) (p : Process) → IsNotBefore h p.timing.clock → new.team ≡ team → HasTaken team h e new a out p
-    → IsDone team h new (row_answer a) out (happen team h e p)
+taken_done : (team : Team) (h : ℕ) (e : Event) (new : State) (a : RowAnswer) (out : Outputs) (p : Process) → IsNotBefore h p.timing.clock → new.team ≡ team → HasTaken team h e new a out p
+    → IsDone team h new a out (happen team h e p)
 taken_done team h e new a out p known same taken = record {
   process = (step team h e p).process;
   running = (same, taken.process);
   known = step_not_before team h e p known;
   looked = ap Some (sym (looked_after team h e p));
-  answer = ap row_answer taken.answer;
+  answer = taken.answer;
   out = taken.out;
 }
 
 -- a core that takes an event, for each process that it stands for
-abbrev pub Takes : State → ℕ → Event → State → Answer → Outputs → Type 0
+abbrev pub Takes : State → ℕ → Event → State → RowAnswer → Outputs → Type 0
 Takes c h e new a out = (p : Process) → StandsFor c p → IsNotBefore h p.timing.clock → HasTaken c.team h e new a out p
 
-pub tick_done : (team : Team) (who h : ℕ) (act : Act) (sent : List Dispatch) (c new : State) (a : Answer) (out : Outputs) (before : Option Process) → act ≡ acts.Tick
-    → IsReady team who h act (Some c) before → new.team ≡ c.team → Takes c h machine.Event.Tick new a out → IsDone team h new (row_answer a) out (deed team who h sent act before)
-tick_done team who h act sent c new a out None is ready same takes = absurd (let r = rw is at ready in cc)
-tick_done team who h act sent c new a out (Some p) is ready same takes =
-    let r = rw is at ready in
-    rw is (taken_done team h machine.Event.Tick new a out p r.1 (same ∙ r.0.0) (subst (λ (t : Team). HasTaken t h machine.Event.Tick new a out p) r.0.0 (takes p r.0.1 r.1)))
-
-pub reference_done : (team : Team) (who h lo hi : ℕ) (act : Act) (sent : List Dispatch) (c new : State) (a : Answer) (out : Outputs) (before : Option Process) → act ≡ Reference lo hi
-    → IsReady team who h act (Some c) before → new.team ≡ c.team → Takes c h (machine.Event.Reference lo hi) new a out → IsDone team h new (row_answer a) out (deed team who h sent act before)
-reference_done team who h lo hi act sent c new a out None is ready same takes = absurd (let r = rw is at ready in cc)
-reference_done team who h lo hi act sent c new a out (Some p) is ready same takes =
-    let r = rw is at ready in
-    rw is (taken_done team h (machine.Event.Reference lo hi) new a out p r.1 (same ∙ r.0.0) (subst (λ (t : Team). HasTaken t h (machine.Event.Reference lo hi) new a out p) r.0.0 (takes p r.0.1 r.1)))
+-- an act that is this event of a running process
+pub event_done : (team : Team) (who h : ℕ) (act : Act) (sent : List Dispatch) (c new : State) (a : RowAnswer) (out : Outputs) (before : Option Process) (e : Event) → ((p : Process) → deed team who h sent act (Some p) ≡ happen team h e p)
+    → RunsAs team (Some c) before × NotBefore h before × IsSome before → new.team ≡ c.team → Takes c h e new a out → IsDone team h new a out (deed team who h sent act before)
+event_done team who h act sent c new a out None e is ready same takes = absurd (let r = ready.2 in cc)
+event_done team who h act sent c new a out (Some p) e is ready same takes =
+    subst (λ (d : Deed). IsDone team h new a out d) (sym (is p))
+    (taken_done team h e new a out p ready.1 (same ∙ ready.0.0) (subst (λ (t : Team). HasTaken t h e new a out p) ready.0.0 (takes p ready.0.1 ready.1)))
 
 -- the kept bytes of a datagram that was sent
 kept_bytes : (team : Team) (kept : Sent) (sent : List Dispatch) (k : ℕ) (d : Dispatch) → SentStandsFor team kept sent → numbered k sent ≡ Some d → numbered k (datagrams kept) ≡ Some (kept_as team.line d)
 kept_bytes team kept sent k d stands e = ap (numbered k) stands.spelled ∙ numbered-map (kept_as team.line) k sent ∙ ap (option_map (kept_as team.line)) e
 
 -- a core that takes the bytes of a datagram
-abbrev pub Receives : Team → State → ℕ → List ℕ → State → Answer → Outputs → Type 0
+abbrev pub Receives : Team → State → ℕ → List ℕ → State → RowAnswer → Outputs → Type 0
 Receives team c h bytes new a out = (d : Datagram) (p : Process) → DatagramFits team.n d → bytes ≡ spelling team.line d → c.team ≡ team → StandsFor c p → IsNotBefore h p.timing.clock
     → HasTaken team h (Packet (Ok d)) new a out p
 
-pub receive_done : (team : Team) (who h k : ℕ) (act : Act) (kept : Sent) (sent : List Dispatch) (bytes : List ℕ) (c new : State) (a : Answer) (out : Outputs) (before : Option Process) → act ≡ Recv k
+pub receive_done : (team : Team) (who h k : ℕ) (act : Act) (kept : Sent) (sent : List Dispatch) (bytes : List ℕ) (c new : State) (a : RowAnswer) (out : Outputs) (before : Option Process) → act ≡ Recv k
     → SentStandsFor team kept sent → was_sent_to who (numbered k sent) ≡ true → ((d : ℕ × List ℕ) → numbered k (datagrams kept) ≡ Some d → bytes ≡ d.1)
-    → IsReady team who h act (Some c) before → new.team ≡ c.team → Receives team c h bytes new a out → IsDone team h new (row_answer a) out (deed team who h sent act before)
+    → IsReady team who h act (Some c) before → new.team ≡ c.team → Receives team c h bytes new a out → IsDone team h new a out (deed team who h sent act before)
 receive_done team who h k act kept sent bytes c new a out None is stands there found ready same takes = absurd (let r = rw is at ready in cc)
 receive_done team who h k act kept sent bytes c new a out (Some p) is stands there found ready same takes = rw is (go (numbered k sent) refl there)
   where
     runs : RunsAs team (Some c) (Some p) × IsNotBefore h p.timing.clock
     runs = let r = rw is at ready in (r.0, r.1)
 
-    go : (o : Option Dispatch) → numbered k sent ≡ o → was_sent_to who o ≡ true → IsDone team h new (row_answer a) out (receive team h o p)
+    go : (o : Option Dispatch) → numbered k sent ≡ o → was_sent_to who o ≡ true → IsDone team h new a out (receive team h o p)
     go None e w = absurd (cc)
     go (Some d) e w = taken_done team h (Packet (Ok d.datagram)) new a out p runs.1 (same ∙ runs.0.0)
         (takes d.datagram p (at_number (WasSendable team.n) sent k d stands.fits e).fits (found (kept_as team.line d) (kept_bytes team kept sent k d stands e)) runs.0.0 runs.0.1 runs.1)

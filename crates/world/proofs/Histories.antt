@@ -14,7 +14,7 @@ use Rattle.tw_types.specs.declared.step.Act.TheVariants.{First, Again, Crash, Ti
 use Rattle.tw_types.specs.Process.{Process}
 use Rattle.tw_machine.specs.Admissible.{cause_of, each_own, is_running, runs_after, is_start, keeps_drift, may_receive, may_start, holds_time}
 use Rattle.tw_machine.specs.Dispatches.{Dispatch}
-use Rattle.tw_machine.specs.Event.{Tick as TickEvent, Packet, Reference as ReferenceEvent}
+use Rattle.tw_machine.specs.Event.{Tick as TickEvent, Packet, Send as SendEvent, Reference as ReferenceEvent}
 use Rattle.tw_machine.specs.World.{world, receive, deed, deed_in, Admissible}
 use Rattle.tw_machine.proofs.Tables.{same_number, equal_numbers, other_number}
 use Rattle.tw_machine.proofs.Steps.{step_not_before}
@@ -228,7 +228,7 @@ deed_not_before team who h sent Tick (Some q) known = step_not_before team h Tic
 deed_not_before team who h sent (Recv d) None known = tt
 deed_not_before team who h sent (Recv d) (Some q) known = received_not_before team h q (numbered d sent) known
 deed_not_before team who h sent (Send order atom payload) None known = tt
-deed_not_before team who h sent (Send order atom payload) (Some q) known = known
+deed_not_before team who h sent (Send order atom payload) (Some q) known = step_not_before team h (SendEvent order atom payload.items) q known
 deed_not_before team who h sent (Reference lo hi) None known = tt
 deed_not_before team who h sent (Reference lo hi) (Some q) known = step_not_before team h (ReferenceEvent lo hi) q known
 deed_not_before team who h sent Look None known = tt

@@ -31,6 +31,9 @@ module _ (c : State) (of_team : c.team ≡ team_a) (stands : core.StandsFor c fr
   for_a_tick : IsReady team_a 0 6 Tick (Some c) (Some fresh)
   for_a_tick = ((of_team, stands), tt, refl)
 
+  for_a_send : (payload : _) → IsReady team_a 0 6 (Send Total Weak payload) (Some c) (Some fresh)
+  for_a_send payload = ((of_team, stands), tt, refl)
+
   for_a_crash : IsReady team_a 0 6 Crash (Some c) (Some fresh)
   for_a_crash = ((of_team, stands), tt, refl)
 
@@ -40,9 +43,6 @@ module _ (c : Option State) where
 
   before_what_was_told : IsReady team_a 0 9 Tick c (Some told) → ⊥
   before_what_was_told ready = omega (arith, ready.1.0)
-
-  not_built : (payload : _) → IsReady team_a 0 6 (Send Total Weak payload) c (Some fresh) → ⊥
-  not_built payload ready = ready
 
 without_a_core : IsReady team_a 0 6 Tick None (Some fresh) → ⊥
 without_a_core ready = ready.0

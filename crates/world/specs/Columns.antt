@@ -49,7 +49,7 @@ life_after h sent Again life = Some (record { mode = modes.Again; began = h; eve
 life_after h sent Crash life = None
 life_after h sent Tick life = option_map (happened (At h Event.Tick)) life
 life_after h sent (Recv d) life = option_map (received h (numbered d sent)) life
-life_after h sent (Send order atom payload) life = life
+life_after h sent (Send order atom payload) life = option_map (happened (At h (Event.Send order atom payload.items))) life
 life_after h sent (Reference lo hi) life = option_map (happened (At h (Event.Reference lo hi))) life
 life_after h sent Look life = option_map (happened (LookedAt h)) life
 

@@ -2,7 +2,6 @@
 use Rattle.std.specs.Prelude.{ℕ, ◌≡◌, Option, Some, None, IsSome}
 use Rattle.tw_num.specs.Clock.{IsNotBefore}
 use Rattle.tw_types.specs.declared.team.Team.{Team}
-use Rattle.tw_types.specs.declared.answer.Answer.{Answer}
 use Rattle.tw_types.specs.declared.outputs.View.{View}
 use Rattle.tw_types.specs.declared.outputs.Outputs.{Outputs}
 use Rattle.tw_types.specs.declared.outputs.Mode.{Mode}
@@ -42,19 +41,19 @@ mode_of (Reference lo hi) = None
 mode_of Look = None
 
 -- A core that is ready for an act at h of the process that was there before: one that starts was just made, any other one
--- runs, also one that crashes, and was given nothing later. An act that isn't built has none.
+-- runs, also one that crashes, and was given nothing later.
 abbrev pub IsReady : Team → ℕ → ℕ → Act → Option State → Option Process → Type 0
 IsReady team who h First c before = RunsAs team c (Some (started who modes.First h))
 IsReady team who h Again c before = RunsAs team c (Some (started who modes.Again h))
 IsReady team who h Crash c before = RunsAs team c before × NotBefore h before × IsSome before
 IsReady team who h Tick c before = RunsAs team c before × NotBefore h before × IsSome before
 IsReady team who h (Recv d) c before = RunsAs team c before × NotBefore h before × IsSome before
-IsReady team who h (Send order atom payload) c before = ⊥
+IsReady team who h (Send order atom payload) c before = RunsAs team c before × NotBefore h before × IsSome before
 IsReady team who h (Reference lo hi) c before = RunsAs team c before × NotBefore h before × IsSome before
 IsReady team who h Look c before = RunsAs team c before × NotBefore h before × IsSome before
 
 -- The core took an event at h that happened to this process.
-pub record HasTaken (team : Team) (h : ℕ) (e : Event) (c : State) (a : Answer) (o : Outputs) (p : Process) : Type 0 where
+pub record HasTaken (team : Team) (h : ℕ) (e : Event) (c : State) (a : RowAnswer) (o : Outputs) (p : Process) : Type 0 where
   pub process : core.StandsFor c (step team h e p).process
   pub answer : a ≡ (step team h e p).answer
   pub out : o ≡ (step team h e p).out

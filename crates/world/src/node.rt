@@ -16,7 +16,9 @@ ghost use Rattle.tw_machine.specs.Dispatches.{Dispatch};
 ghost use Rattle.tw_machine.specs.Event.{Packet};
 ghost use Rattle.tw_machine.specs.Grammar.{IsAct};
 ghost use Rattle.tw_machine.specs.Rows.{gone};
-ghost use Rattle.tw_machine.specs.World.{row_answer, deed};
+ghost use Rattle.tw_machine.specs.Step.{row_answer};
+ghost use Rattle.tw_machine.specs.World.{deed};
+ghost use Rattle.node_core.specs.Outcomes.{send_answer};
 ghost use Rattle.node_core.specs.Sends.{IsSendable};
 ghost use Rattle.node_core.specs.StandsFor.{StandsFor};
 ghost use Rattle.world.specs.Datagrams.{SentStandsFor};
@@ -28,7 +30,7 @@ use crate::sent::Sent;
 use node_core::{Core, Event};
 use std::alloc::Global;
 use tw_num::WantOfMemory;
-use tw_types::{Act, Answer, Mode, Outputs, RowAnswer, Step, Team, View};
+use tw_types::{Act, Answer, Mode, Outputs, ProposeFault, RowAnswer, Step, Team, View};
 
 /// What is kept of a process: the bounds of all its readings, over all its lives, whether it was ever started, and what runs of
 /// it.
@@ -82,6 +84,16 @@ fn row_answer(answer: Answer) -> RowAnswer
     }
 }
 
+/// How a row tells the answer to a send.
+fn send_answer(answer: Result<u32, ProposeFault>) -> RowAnswer
+    ensures { result ≡ send_answer answer }
+{
+    match answer {
+        Ok(seq) => RowAnswer::Sent(seq),
+        Err(why) => RowAnswer::Refused(why),
+    }
+}
+
 impl Node {
     ghost use Rattle.std.specs.Prelude.{◌≡◌, ◌≤◌, ◌<◌, ◌^◌, ◌||◌, ◌∷◌, ℕ, List, true, is_some, Option, OnOk, OnErr};
     ghost use Rattle.std.specs.List.{AllByRecursion};
@@ -91,7 +103,6 @@ impl Node {
     ghost use Rattle.tw_machine.specs.Admissible.{is_start, may_receive};
     ghost use Rattle.tw_machine.specs.Dispatches.{Dispatch};
     ghost use Rattle.tw_machine.specs.Grammar.{IsAct};
-    ghost use Rattle.tw_machine.specs.Schedule.{is_built};
     ghost use Rattle.tw_machine.specs.World.{deed};
     ghost use Rattle.node_core.specs.Sends.{IsSendable};
     ghost use Rattle.world.specs.Bounds.{AreBoundsOf, admits, is_above};
@@ -153,7 +164,6 @@ impl Node {
         requires sound { IsSound team.now }
         requires who { step.now.who < team.now.n }
         requires h { step.now.h < 2 ^ 60 }
-        requires built { is_built step.now.act ≡ true }
         ensures bounds { OnOk result ((readings : List Reading) → AllByRecursion (λ r. r.h ≤ step.now.h) readings →
             AreBoundsOf team.now.ppm self.old.bounds readings →
             AreBoundsOf team.now.ppm self.new.bounds (record { t = step.now.t; h = step.now.h } ∷ readings)) }
@@ -220,7 +230,7 @@ fn receive(core: &mut Core, bytes: &[u8], h: u64, out: &mut Outputs) -> Answer
     requires { h < 2 ^ 60 }
     ensures received { (team : TeamSeen) (d : Datagram) (p : Process) → IsSound team → team.line < 2 ^ 32 → DatagramFits team.n d →
         bytes.now ≡ spelling team.line d → core.old.team ≡ team → StandsFor core.old p → IsNotBefore h p.timing.clock →
-        HasTaken team h (Packet (Ok d)) core.new result out.new p }
+        HasTaken team h (Packet (Ok d)) core.new (row_answer result) out.new p }
     ensures fits { AllByRecursion (IsSendable core.old.team.n) out.new.sends }
     ensures team { core.new.team ≡ core.old.team }
 {
@@ -241,6 +251,11 @@ fn happen(core: &mut Core, step: &Step, sent: &Sent, out: &mut Outputs) -> RowAn
     match step.act {
         Act::Tick => row_answer(core.step(Event::Tick, step.h, out)),
         Act::Recv(number) => row_answer(receive(core, sent.bytes(number), step.h, out)),
+        Act::Send {
+            order,
+            atom,
+            ref payload,
+        } => send_answer(core.propose(step.h, order, atom, payload.as_slice(), out)),
         Act::Reference { lo, hi } => row_answer(core.step(
             Event::Reference { lo, hi },
             step.h,
@@ -248,7 +263,7 @@ fn happen(core: &mut Core, step: &Step, sent: &Sent, out: &mut Outputs) -> RowAn
         )),
         Act::First | Act::Again => silent(RowAnswer::Start, out),
         Act::Look => silent(RowAnswer::Look, out),
-        Act::Crash | Act::Send { .. } => silent(RowAnswer::Done, out),
+        Act::Crash => silent(RowAnswer::Done, out),
     }
 }
 

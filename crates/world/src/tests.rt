@@ -1,6 +1,5 @@
 ghost use Rattle.std.specs.Prelude.{◌≡◌, ◌<◌, ◌^◌, true};
 ghost use Rattle.tw_machine.specs.Grammar.{IsAct};
-ghost use Rattle.tw_machine.specs.Schedule.{is_built};
 
 use crate::{Refused, World};
 use std::alloc::Global;
@@ -52,7 +51,6 @@ impl Schedule {
     /// Takes a step in which both clocks read `t`, and answers why it is refused.
     fn take(&mut self, t: u32, who: u8, act: Act) -> Option<Refused>
         requires act { IsAct act }
-        requires built { is_built act ≡ true }
     {
         self.take_at(t, who, t, act)
     }
@@ -60,7 +58,6 @@ impl Schedule {
     /// Takes a step of a process at its reading `h`, and answers why it is refused.
     fn take_at(&mut self, t: u32, who: u8, h: u32, act: Act) -> Option<Refused>
         requires act { IsAct act }
-        requires built { is_built act ≡ true }
     {
         if self.world.steps() >= 100_000 || who >= self.world.team().n {
             return Some(Refused::WantOfMemory);
@@ -74,7 +71,6 @@ impl Schedule {
     /// Takes a step of process 0 at its reading `h`, and answers why it is refused.
     fn reads(&mut self, t: u64, h: u64, act: Act) -> Option<Refused>
         requires act { IsAct act }
-        requires built { is_built act ≡ true }
     {
         if self.world.steps() >= 100_000 || self.world.team().n == 0 || h > LAST {
             return Some(Refused::WantOfMemory);
@@ -86,7 +82,6 @@ impl Schedule {
     /// Whether a step in which both clocks read `t` is taken, and its row has this line and these datagrams.
     fn shows(&mut self, t: u32, who: u8, act: Act, line: RowLine, sends: &[(u8, Datagram)]) -> bool
         requires act { IsAct act }
-        requires built { is_built act ≡ true }
     {
         self.take(t, who, act).is_none()
             && self.row.line == line
@@ -96,7 +91,6 @@ impl Schedule {
     /// Whether a step is refused for this, and the row stays that of the last step that was taken.
     fn refuses(&mut self, t: u32, who: u8, h: u32, act: Act, why: Refused) -> bool
         requires act { IsAct act }
-        requires built { is_built act ≡ true }
     {
         let before = self.row.line;
         self.take_at(t, who, h, act) == Some(why) && self.row.line == before

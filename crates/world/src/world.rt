@@ -56,7 +56,6 @@ impl World {
     ghost use Rattle.tw_types.specs.declared.step.Step.{Step as StepSeen};
     ghost use Rattle.tw_machine.specs.Admissible.{cause_of};
     ghost use Rattle.tw_machine.specs.Grammar.{IsAct};
-    ghost use Rattle.tw_machine.specs.Schedule.{is_built};
     ghost use Rattle.tw_machine.specs.World.{world};
     ghost use Rattle.tw_machine.specs.Rows.{row_of};
     ghost use Rattle.world.specs.Causes.{cause_told, cause_if};
@@ -118,7 +117,6 @@ impl World {
         requires who { step.now.who < self.old.team.n }
         requires h { step.now.h < 2 ^ 60 }
         requires act { IsAct step.now.act }
-        requires built { is_built step.now.act ≡ true }
         requires steps { self.old.steps < 100000 }
         ensures taken { OnOk result ((team : TeamSeen) (past : List StepSeen) → StandsFor team past self.old →
             cause_of team (world team past).sent past step.now ≡ None → StandsFor team (step.now ∷ past) self.new × (row.new ≡ row_of team past step.now)) }
@@ -143,7 +141,7 @@ impl World {
         Ok(())
     }
 
-    /// Takes the next step, of an act that is built, and makes `row` its row.
+    /// Takes the next step, and makes `row` its row.
     ///
     /// A step that may not follow the steps before it is refused for the first cause of these, in this order: `Time`, `Drift`,
     /// `Start`, `NotRunning`, `NoDatagram`, `Reference`. One that may follow is refused for want of memory alone. Each refusal
@@ -152,7 +150,6 @@ impl World {
         requires who { step.now.who < self.old.team.n }
         requires h { step.now.h < 2 ^ 60 }
         requires act { IsAct step.now.act }
-        requires built { is_built step.now.act ≡ true }
         requires steps { self.old.steps < 100000 }
         ensures taken { IfOk result (λ _. (team : TeamSeen) (past : List StepSeen) → StandsFor team past self.old →
             (cause_of team (world team past).sent past step.now ≡ None) × StandsFor team (step.now ∷ past) self.new

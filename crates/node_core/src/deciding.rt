@@ -10,6 +10,7 @@ impl State {
     ghost use Rattle.std.specs.Prelude.{◌≡◌, ◌<◌, ◌≤◌, ◌+◌, ◌^◌, length, true, false, Option, Some, None, List};
     ghost use Rattle.tw_types.specs.declared.team.Team.{Team as TeamSeen};
     ghost use Rattle.tw_types.specs.declared.message.Report.{Report};
+    ghost use Rattle.tw_types.specs.declared.message.Kept.{Kept};
     ghost use Rattle.tw_types.specs.declared.message.Decision.{Decision as DecisionSeen};
     ghost use Rattle.tw_types.specs.Beliefs.{last_of};
     ghost use Rattle.tw_types.specs.Flag.{is_up};
@@ -37,8 +38,8 @@ impl State {
         requires list { first_refusal (fit_tests_at self.old.oal.length self.old.oal.passed (payloads_of self.old.store.waiting) d) ≡ None }
         requires reading { t < 2 ^ 60 }
         requires room { length out.old.sends + 14 ≤ 64 }
-        ensures stands { (team : TeamSeen) (before : Option DecisionSeen) (reports : List Report) (r : Run) → RunStandsFor team self.old out.old r →
-            RunStandsFor team self.new out.new (decision_made team now.now (record { decision = d; before = before; reports = reports }) t r) }
+        ensures stands { (team : TeamSeen) (before : Option DecisionSeen) (reports : List Report) (appended : List Kept) (r : Run) → RunStandsFor team self.old out.old r →
+            RunStandsFor team self.new out.new (decision_made team now.now (record { decision = d; before = before; reports = reports; appended = appended }) t r) }
         ensures gives { GivesMore self.old.team.n 14 out.old out.new }
         ensures fits { IsInRange self.new }
         ensures team { self.new.team ≡ self.old.team }

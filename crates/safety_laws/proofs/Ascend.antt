@@ -10,7 +10,8 @@ use Rattle.tw_machine.specs.World.{world}
 use Rattle.safety_laws.specs.Ascend.{IsBelow, Ascends, ascend}
 use Rattle.safety_laws.specs.Effects.{State, Here, Promises}
 use Rattle.safety_laws.specs.Latest.{latest}
-use Rattle.safety_laws.specs.Laws.{Law, Holds, Both, In}
+use Rattle.safety_laws.specs.Laws.{Law, Holds, Both}
+use Rattle.tw_types.specs.Items.{In}
 use Rattle.safety_laws.specs.Names.{promise_name, IsOfLife, Present, Earlier, IsOwn, names}
 use Rattle.safety_laws.specs.NotAhead.{IsAtMost, promise_reading, not_ahead}
 use Rattle.safety_laws.specs.Windows.{IsInWindow, windows}

@@ -10,7 +10,7 @@ use Rattle.tw_types.specs.Ranges.{Distinct}
 use Rattle.tw_types.specs.Reports.{is_by_informed}
 use Rattle.tw_machine.specs.History.{Promised, Make}
 use Rattle.tw_machine.proofs.Tables.{all_push}
-use Rattle.safety_laws.specs.Laws.{In}
+use Rattle.tw_types.specs.Items.{In}
 use Rattle.safety_laws.specs.Made.{IsNotOlder, IsBest, TellsLast, TellsDecision, reporters}
 use Rattle.safety_laws.proofs.FirstDecisions.{are_distinct, were_distinct}
 use Rattle.safety_laws.proofs.Lists.{each_weaker}

@@ -6,7 +6,7 @@ use Rattle.std.proofs.lemmas.List.{length-map}
 use Rattle.std.proofs.lemmas.List.Sums.{length-filter}
 use Rattle.std.proofs.lemmas.Map.Steps.{length-le_from_distinct_below}
 use Rattle.tw_machine.proofs.Tables.{all_joined, equal_numbers}
-use Rattle.safety_laws.specs.Laws.{In}
+use Rattle.tw_types.specs.Items.{In}
 use Rattle.safety_laws.proofs.Lists.{of_each}
 
 -- ---- two lists of numbers

@@ -1,5 +1,6 @@
 -- Each part of a step is a row of effects, and so is a step.
-use Rattle.std.proofs.Common.{◌≡◌, refl, sym, ap, subst, ◌∙◌, ℕ, ◌<◌, Bool, true, false, cond, not, ◌&&◌, nat_eq, nat_lt, List, [], ◌∷◌, ◌++◌, map, Option, Some, None, Result, Ok, Err, arith}
+use Rattle.std.proofs.Common.{◌≡◌, refl, sym, ap, subst, ◌∙◌, inl, inr, ◌⊎◌, ℕ, zero, suc, ◌-◌, ◌<◌, Bool, true, false, cond, not, ◌&&◌, ◌||◌, nat_eq, nat_lt, is_some, List, [], ◌∷◌, ◌++◌, map, length, drop, find, Option, Some, None, Result, Ok, Err, arith}
+use Rattle.std.specs.Prelude.{unwrap_or}
 use Rattle.std.specs.List.{AllByRecursion}
 use Rattle.std.specs.Option.{option_map}
 use Rattle.std.proofs.lemmas.Bool.Decides.{nat_tests}
@@ -16,6 +17,7 @@ use Rattle.tw_types.specs.declared.datagram.Datagram.{Datagram}
 use Rattle.tw_types.specs.declared.message.UpdateId.{UpdateId}
 use Rattle.tw_types.specs.declared.message.Decision.{Decision}
 use Rattle.tw_types.specs.declared.message.Kept.{Kept}
+use Rattle.tw_types.specs.declared.message.Seat.{Seat}
 use Rattle.tw_types.specs.declared.message.Order.{Order}
 use Rattle.tw_types.specs.declared.message.Atom.{Atom}
 use Rattle.tw_types.specs.declared.datagram.Want.{Want}
@@ -24,28 +26,33 @@ use Rattle.tw_types.specs.declared.step.Step.{Step}
 use Rattle.tw_types.specs.Refusals.{Refusal, first_refusal}
 use Rattle.tw_types.specs.Votes.{Promise, Making}
 use Rattle.tw_types.specs.Reports.{is_by_informed, kind_of}
-use Rattle.tw_types.specs.Beliefs.{Belief, Informed, Blank, Log, is_informed, view_decision, log_length}
+use Rattle.tw_types.specs.Beliefs.{Belief, Informed, Blank, Log, is_informed, last_of, view_decision}
 use Rattle.tw_types.specs.Ballots.{wants, is_over}
-use Rattle.tw_types.specs.Decisions.{or_none, is_older, has_seat}
+use Rattle.tw_types.specs.Decisions.{or_none, is_older, is_same_member, has_seat}
 use Rattle.tw_types.specs.Elections.{why_begun, own_promise}
-use Rattle.tw_types.specs.Waiting.{Held, payloads_of, Putting, Filled, Stored, putting, with_payload}
-use Rattle.tw_types.specs.Groups.{NoGroup, group_made, group_making, first_decision, objections, first_objection, next_making}
-use Rattle.tw_types.specs.Turns.{is_turn, next_decision}
+use Rattle.tw_types.specs.Waiting.{Held, payloads_of, Putting, Filled, Stored, Known, Stranger, OutOfRange, putting, known_if_own}
+use Rattle.tw_types.specs.Flag.{is_up}
+use Rattle.tw_types.specs.Logs.{kept_from, kept_entries}
+use Rattle.tw_types.specs.Sends.{Sending, SendRefusal, first_send_refusal, awaited_seq, update_of}
+use Rattle.tw_types.specs.Updates.{is_named, sender}
+use Rattle.tw_types.proofs.Up.{Backing, backing}
+use Rattle.tw_types.specs.Groups.{NoGroup, group_made, group_making, first_decision, objections, first_objection}
+use Rattle.tw_types.specs.Turns.{is_turn}
 use Rattle.tw_types.specs.Promises.{is_quarantined, is_in_window}
 use Rattle.tw_types.specs.Process.{Process, Purpose, ToTake, ToGroup, Hold}
 use Rattle.tw_machine.specs.Dispatches.{sent_at}
-use Rattle.tw_machine.specs.History.{Promised, promise_item, make_item, promises_on, makes_on}
+use Rattle.tw_machine.specs.History.{Promised, SentUpdate, promise_item, make_item, send_item, promises_on, makes_on, sends_on}
 use Rattle.tw_machine.specs.History as items
 use Rattle.tw_machine.specs.Run.{Run, Ruled, done, dropped, with_sends}
 use Rattle.tw_machine.specs.Sending.{datagram_to, others, sent_to, sent_to_others}
 use Rattle.tw_machine.specs.Standing.{member_of, last_decision, report_by, promise_by}
 use Rattle.tw_machine.specs.Control.{rate_of, timely_reading, if_timely}
 use Rattle.tw_machine.specs.Entering.{entered, decision_entered, held_for, decision_held, enter_decision}
-use Rattle.tw_machine.specs.Updating.{is_stale, held_let_go, use_if_whole, update_kept, update_put, received_as, take_update, answer_ask}
-use Rattle.tw_machine.specs.Proposing.{own_update, seq_given, update_sent, propose}
+use Rattle.tw_machine.specs.Updating.{is_stale, held_let_go, use_if_whole, update_kept, update_put, received_as, take_update, held_update, answer_ask}
+use Rattle.tw_machine.specs.Proposing.{own_seat, own_seq, refusals, own_update, seq_given, update_sent, propose}
 use Rattle.tw_machine.specs.Taking.{decision_tests, take_decision}
 use Rattle.tw_machine.specs.Electing.{promised, answer_tests, election_answered, answer_election, ballot_dropped, has_spent_ballot, drop_ballot, holds_election, election_begun, begin_election}
-use Rattle.tw_machine.specs.Deciding.{supporting, making_kept, decision_made, has_turn, entries_to_add, turn_taken, take_turn}
+use Rattle.tw_machine.specs.Deciding.{supporting, making_kept, decision_made, has_turn, next_made, turn_taken, take_turn}
 use Rattle.tw_machine.specs.Grouping.{promise_added, take_promise, make_group}
 use Rattle.tw_machine.specs.Beating.{is_due, beat_marked, is_repeated, repeat_decision, ask_again, beat_given, give_beat}
 use Rattle.tw_machine.specs.Rules.{kind_rule, rule}
@@ -54,16 +61,22 @@ use Rattle.tw_machine.specs.Event.{Event}
 use Rattle.tw_machine.specs.Step.{event_rule}
 use Rattle.tw_machine.proofs.Tables.{all_mapped, all_of, equal_numbers}
 use Rattle.tw_machine.proofs.Ends.{by_entering, by_group, by_asking, by_using, by_kept, by_putting, by_answering, by_proposing, by_event}
-use Rattle.safety_laws.specs.Effects.{Written, State, Here, state_of, NotBelow, Says, IsToldBy, held_decision, Source, Comes, WasHeld, Holding, Stays, Goes, ForTaking, ForGroup, BallotReason, MakeReason, Change, Changes}
+use Rattle.safety_laws.specs.Effects.{Written, State, Here, state_of, NotBelow, WasSent, Origin, ByMail, ByItself, Again, First, Says, IsToldBy, Source, Comes, WasHeld, Waits, Stays, Puts, Fills, Goes, ForTaking, ForGroup, Proposes, Numbers, SendsNone, SendsOne, BallotReason, MakeReason, Change, Changes}
+use Rattle.tw_types.specs.Items.{In}
+use Rattle.safety_laws.proofs.Lists.{of_append, in_first, in_last, in_drop, in_either, found_in}
 
 -- one item more, at the end of what a step gave, stands first
 pub promise_first : (life : ℕ) (s : Step) (given : Promise) (ps : List Promise) (older : List Promised) → promises_on life s (ps ++ given ∷ []) older ≡ promise_item life s given ∷ promises_on life s ps older
 promise_first life s given [] older = refl
 promise_first life s given (p ∷ ps) older = promise_first life s given ps (promise_item life s p ∷ older)
 
-pub make_first : (member : Member) (life : ℕ) (s : Step) (making : Making) (ms : List Making) (older : List items.Make) → makes_on member life s (ms ++ making ∷ []) older ≡ make_item member life s making ∷ makes_on member life s ms older
+pub make_first : (member : Member) (life : ℕ) (s : Step) (making : Making) (ms : List Making) (older : List items.Make) → makes_on member life s (ms ++ making ∷ []) older ≡ make_item member life s (makes_on member life s ms older) making ∷ makes_on member life s ms older
 make_first member life s making [] older = refl
-make_first member life s making (m ∷ ms) older = make_first member life s making ms (make_item member life s m ∷ older)
+make_first member life s making (m ∷ ms) older = make_first member life s making ms (make_item member life s older m ∷ older)
+
+pub send_first : (member : Member) (life : ℕ) (s : Step) (sending : Sending) (zs : List Sending) (older : List SentUpdate) → sends_on member life s (zs ++ sending ∷ []) older ≡ send_item member life s sending ∷ sends_on member life s zs older
+send_first member life s sending [] older = refl
+send_first member life s sending (z ∷ zs) older = send_first member life s sending zs (send_item member life s z ∷ older)
 
 pub same_greatest : (o : Option ℕ) → NotBelow o o
 same_greatest None = tt
@@ -84,6 +97,19 @@ none_present (r ∷ rs) none = go r.present refl none (none_present rs)
     go true e f rest = absurd (cc)
     go false e f rest = (e, rest f)
 
+none_refused : (rs : List SendRefusal) → first_send_refusal rs ≡ None → AllByRecursion (λ (r : SendRefusal). r.present ≡ false) rs
+none_refused [] none = tt
+none_refused (r ∷ rs) none = go r.present refl none (none_refused rs)
+  where
+    go : (b : Bool) → r.present ≡ b → cond b (Some r.why) (first_send_refusal rs) ≡ None → (first_send_refusal rs ≡ None → AllByRecursion (λ (r : SendRefusal). r.present ≡ false) rs) → (r.present ≡ false) × AllByRecursion (λ (r : SendRefusal). r.present ≡ false) rs
+    go true e f rest = absurd (cc)
+    go false e f rest = (e, rest f)
+
+both_true : (a b : Bool) → (not a || not b) ≡ false → (a ≡ true) × (b ≡ true)
+both_true true true e = (refl, refl)
+both_true true false e = absurd (cc)
+both_true false b e = absurd (cc)
+
 not_false : (b : Bool) → not b ≡ false → b ≡ true
 not_false true e = refl
 not_false false e = absurd (cc)
@@ -94,6 +120,23 @@ timely_at Unrated reading t e = absurd (cc)
 timely_at (Late bound) reading t e = absurd (cc)
 timely_at (Timely bound) None t e = absurd (cc)
 timely_at (Timely bound) (Some u) t e = cc
+
+-- an update that was sent stays among those that were
+still_sent : (here : Here) (x y : State) (k : Kept) → Change here x y → WasSent x.written.sends k → WasSent y.written.sends k
+still_sent here x y k (Change.Keep c) sent = go c.numbers
+  where
+    go : Numbers here x y → WasSent y.written.sends k
+    go (SendsNone next same) = subst (λ zs. WasSent zs k) (sym same) sent
+    go (SendsOne sending may next newest) = subst (λ zs. WasSent zs k) (sym newest) (sent.0, inr sent.1, sent.2)
+still_sent here x y k (Change.Give c) sent = rw c.written sent
+still_sent here x y k (Change.Hold c) sent = rw c.written sent
+still_sent here x y k (Change.Take c) sent = rw c.written sent
+still_sent here x y k (Change.Make c) sent = rw c.written sent
+still_sent here x y k (Change.Raise c) sent = rw c.written sent
+
+still_sent_all : (here : Here) (x y : State) (k : Kept) → Changes here x y → WasSent x.written.sends k → WasSent y.written.sends k
+still_sent_all here x y k Changes.Done sent = sent
+still_sent_all here x y k (Changes.Then {y = m} rest last) sent = still_sent here m y k last (still_sent_all here x m k rest sent)
 
 -- ---- in one step, after what was written down before it
 
@@ -131,9 +174,9 @@ module _ (here : Here) (before : Written) where
     vote = refl;
     ballot = refl;
     belief = refl;
-    base = refl;
-    length = refl;
-    held = Stays refl refl;
+    log = refl;
+    waits = Stays refl refl;
+    numbers = SendsNone refl refl;
     greatest = same_greatest r.process.timing.clock.greatest;
     promises = refl;
     makes = refl;
@@ -159,15 +202,15 @@ module _ (here : Here) (before : Written) where
 
   -- a change of what no law on groups reads
   pub still : (a b : Run) → b.process.identity ≡ a.process.identity → b.process.vote ≡ a.process.vote → b.process.ballot ≡ a.process.ballot → b.process.belief ≡ a.process.belief → b.process.log ≡ a.process.log
-      → Holding here (at a) (at b) → NotBelow a.process.timing.clock.greatest b.process.timing.clock.greatest → b.promises ≡ a.promises → b.makings ≡ a.makings → b.out.sends ≡ a.out.sends → Change here (at a) (at b)
-  still a b identity vote ballot belief log held greatest promises makings sends = Change.Keep (record {
+      → Waits here (at a) (at b) → Numbers here (at a) (at b) → NotBelow a.process.timing.clock.greatest b.process.timing.clock.greatest → b.promises ≡ a.promises → b.makings ≡ a.makings → b.out.sends ≡ a.out.sends → Change here (at a) (at b)
+  still a b identity vote ballot belief log waits numbers greatest promises makings sends = Change.Keep (record {
     identity = identity;
     vote = vote;
     ballot = ballot;
     belief = belief;
-    base = ap (λ (l : Log). l.base) log;
-    length = ap log_length log;
-    held = held;
+    log = log;
+    waits = waits;
+    numbers = numbers;
     greatest = greatest;
     promises = ap (λ ps. promises_on here.life here.step ps before.promises) promises;
     makes = rw (identity, makings) refl;
@@ -178,18 +221,18 @@ module _ (here : Here) (before : Written) where
   })
 
   -- a decision is held, and an update asked for
-  held_row : (purpose : Purpose) (d : Decision) (source : ℕ) (id : UpdateId) (r : Run) → Holding here (at r) (at (record r { process = held_for purpose d source r.process })) → IsRead r → Row r (decision_held here.now purpose d source id r)
-  held_row purpose d source id r holding read =
+  held_row : (purpose : Purpose) (d : Decision) (source : ℕ) (id : UpdateId) (r : Run) → Waits here (at r) (at (record r { process = held_for purpose d source r.process })) → IsRead r → Row r (decision_held here.now purpose d source id r)
+  held_row purpose d source id r waits read =
       let held : Run = record r { process = held_for purpose d source r.process } in
       after r held (decision_held here.now purpose d source id r)
-      (one r held (still r held refl refl refl refl refl holding (same_greatest r.process.timing.clock.greatest) refl refl refl) read)
+      (one r held (still r held refl refl refl refl refl waits (SendsNone refl refl) (same_greatest r.process.timing.clock.greatest) refl refl refl) read)
       (one_sent source _ held read tt)
 
   -- a decision that has a source enters the list, or is held to be taken
   enter_row : (d : Decision) (r : Run) → Source here (at r) d → IsRead r → Row r (enter_decision here.now d r).run
   enter_row d r source read = by_entering here.now d r (λ k. Row r k.run)
       (λ fits whole. one r (decision_entered d r) (Change.Take (record { taken_decision = d; source = source; fits = fits; whole = whole; process = refl; written = refl })) read)
-      (λ id. held_row ToTake d d.maker id r (ForTaking d source refl refl) read) (λ reason e. nothing r read)
+      (λ id. held_row ToTake d d.maker id r (ForTaking d d.maker source refl refl) read) (λ reason e. nothing r read)
 
   -- a promise
 
@@ -256,10 +299,10 @@ module _ (here : Here) (before : Written) where
       kept_read : IsRead (making_kept making t r)
       kept_read u e = ap (λ (p : Process). p.timing.clock.greatest) kept ∙ read u e
 
-      all_same : record (at r).written { makes = make_item (member_of r.process.identity) here.life here.step making ∷ (at r).written.makes } ≡ record (at a).written { makes = make_item (member_of a.process.identity) here.life here.step making ∷ (at a).written.makes }
+      all_same : record (at r).written { makes = make_item (member_of r.process.identity) here.life here.step (at r).written.makes making ∷ (at r).written.makes } ≡ record (at a).written { makes = make_item (member_of a.process.identity) here.life here.step (at a).written.makes making ∷ (at a).written.makes }
       all_same =
-          ap (λ (w : Written). record w { makes = make_item (member_of r.process.identity) here.life here.step making ∷ w.makes }) same
-          ∙ ap (λ (p : Process). record (at a).written { makes = make_item (member_of p.identity) here.life here.step making ∷ (at a).written.makes }) kept
+          ap (λ (w : Written). record w { makes = make_item (member_of r.process.identity) here.life here.step w.makes making ∷ w.makes }) same
+          ∙ ap (λ (p : Process). record (at a).written { makes = make_item (member_of p.identity) here.life here.step (at a).written.makes making ∷ (at a).written.makes }) kept
 
   turn_row : (t : ℕ) (r : Run) → IsRead r → here.now.reading ≡ Some t → Row r (take_turn here.team here.now t r)
   turn_row t r read reading = go (last_decision r.process) refl
@@ -268,7 +311,7 @@ module _ (here : Here) (before : Written) where
       by_test last is true e =
           let turn : is_turn here.team (member_of r.process.identity) (Some last) r.process.vote.promised t ≡ true = subst (λ (o : Option Decision). is_turn here.team (member_of r.process.identity) o r.process.vote.promised t ≡ true) is e in
           let group : last.group ≡ r.process.vote.promised = grind (arith, nat_tests) in
-          made_row (next_making last (next_decision (entries_to_add here.team t last r.process) last t r.process.identity.who)) t r r read reading refl group (MakeReason.Next last is turn refl refl) refl refl
+          made_row (next_made here.team t last r.process) t r r read reading refl group (MakeReason.Next last is turn refl refl) refl refl
       by_test last is false e = nothing r read
 
       go : (o : Option Decision) → last_decision r.process ≡ o → Row r (elim o as (λ o. Run) [ None ↦ r | Some last ↦ cond (has_turn here.team t r.process) (turn_taken here.team here.now last t r) r ])
@@ -317,7 +360,7 @@ module _ (here : Here) (before : Written) where
   group_row t r read reading promised = by_group here.team here.now t r (Row r) (nothing r read)
       (λ ballot d is full e. let new = group_is ballot r.process.log (payloads_of r.process.waiting) (member_of r.process.identity) t d e in
       made_row (group_making ballot d) t r (ballot_dropped r) read reading new.made (new.group ∙ sym (promised ballot is)) (MakeReason.Group ballot is full e refl refl) refl refl)
-      (λ ballot best id is e. held_row ToGroup best ballot.best_from id r (ForGroup ballot best is e refl refl) read)
+      (λ ballot best id is e. held_row ToGroup best ballot.best_from id r (ForGroup ballot best ballot.best_from is e (sym (promised ballot is)) refl refl) read)
 
   informed_by : (r : Run) → is_by_informed (report_by r.process 0) ≡ true → is_informed r.process.belief ≡ true
   informed_by r e = go r.process.belief e
@@ -395,7 +438,7 @@ module _ (here : Here) (before : Written) where
 
       go : (due : Bool) → Row r (cond due (beat_given here.team here.now r) r)
       go true =
-          let first : Row r marked = one r marked (still r marked refl refl refl refl refl (Stays refl refl) (same_greatest r.process.timing.clock.greatest) refl refl refl) read in
+          let first : Row r marked = one r marked (still r marked refl refl refl refl refl (Stays refl refl) (SendsNone refl refl) (same_greatest r.process.timing.clock.greatest) refl refl refl) read in
           let second : Row marked again = ask_row marked read in
           let third : Row again (repeat_decision here.team here.now again) = repeat_row again second.read in
           after r marked (beat_given here.team here.now r) first
@@ -437,46 +480,108 @@ module _ (here : Here) (before : Written) where
 
   -- an update that is put, and what a filled hole sets off
 
-  waits_row : (putting : Putting) (k : Kept) (r : Run) → held_decision (update_kept putting k r).process ≡ held_decision r.process → IsRead r → Row r (update_kept putting k r)
-  waits_row putting k r same read = one r (update_kept putting k r) (still r (update_kept putting k r) refl refl refl refl refl (Stays same refl) (same_greatest r.process.timing.clock.greatest) refl refl refl) read
+  waits_row : (put : Putting) (k : Kept) (r : Run) → Waits here (at r) (at (update_kept put k r)) → IsRead r → Row r (update_kept put k r)
+  waits_row put k r waits read = one r (update_kept put k r) (still r (update_kept put k r) refl refl refl refl refl waits (SendsNone refl refl) (same_greatest r.process.timing.clock.greatest) refl refl refl) read
+
+  stored_row : (k : Kept) (r : Run) → Origin here (at r) k → putting (view_decision r.process.belief) k r.process.waiting ≡ Stored → IsRead r → Row r (update_kept Stored k r)
+  stored_row k r origin is read = waits_row Stored k r (Puts k origin is refl refl) read
 
   use_row : (r : Run) → IsRead r → Row r (use_if_whole here.now r)
   use_row r read = by_using here.now r (Row r) (nothing r read)
-      (one r (held_let_go r) (still r (held_let_go r) refl refl refl refl refl (Goes refl) (same_greatest r.process.timing.clock.greatest) refl refl refl) read)
+      (one r (held_let_go r) (still r (held_let_go r) refl refl refl refl refl (Goes refl refl) (SendsNone refl refl) (same_greatest r.process.timing.clock.greatest) refl refl refl) read)
       (λ h hold is held purpose fresh. enter_row h.decision r (WasHeld hold (ap (option_map (λ (z : Held). z.decision)) is) held purpose (unpromised h.decision hold fresh)) read)
     where
       unpromised : (d : Decision) (hold : Hold) → is_stale hold d r.process ≡ false → hold.promised ≡ r.process.vote.promised
       unpromised d hold fresh = grind (arith, nat_tests)
 
-  fill_row : (k : Kept) (r : Run) → IsRead r → Row r (use_if_whole here.now (update_kept Filled k r))
-  fill_row k r read = after r (update_kept Filled k r) (use_if_whole here.now (update_kept Filled k r)) (waits_row Filled k r (same r.process.waiting.held) read) (use_row (update_kept Filled k r) read)
-    where
-      same : (o : Option Held) → option_map (λ (z : Held). z.decision) (option_map (with_payload k) o) ≡ option_map (λ (z : Held). z.decision) o
-      same None = refl
-      same (Some h) = refl
+  filled_row : (k : Kept) (r : Run) → Origin here (at r) k → putting (view_decision r.process.belief) k r.process.waiting ≡ Filled → IsRead r → Row r (use_if_whole here.now (update_kept Filled k r))
+  filled_row k r origin is read =
+      after r (update_kept Filled k r) (use_if_whole here.now (update_kept Filled k r)) (waits_row Filled k r (Fills k origin is refl refl) read) (use_row (update_kept Filled k r) read)
 
-  put_row : (putting : Putting) (k : Kept) (r : Run) → IsRead r → Row r (update_put here.now putting k r)
-  put_row putting k r read = by_kept here.now putting k r (Row r) (nothing r read) (waits_row Stored k r refl read) (fill_row k r read)
+  put_row : (k : Kept) (r : Run) → Origin here (at r) k → IsRead r → Row r (update_put here.now (putting (view_decision r.process.belief) k r.process.waiting) k r)
+  put_row k r origin read = by_kept here.now (putting (view_decision r.process.belief) k r.process.waiting) k r (Row r) (nothing r read) (λ e. stored_row k r origin e read) (λ e. filled_row k r origin e read)
 
-  update_row : (k : Kept) (r : Run) → IsRead r → Row r (take_update here.now k r).run
-  update_row k r read = by_putting here.now (received_as r.process k) k r (λ z. Row r z.run) (fill_row k r read) (waits_row Stored k r refl read) (λ reason other. nothing r read)
+  -- one that is received is put as any other, but for the process's own
+  put_received : (own : Bool) (p : Putting) → (known_if_own own p ≡ Stored → p ≡ Stored) × (known_if_own own p ≡ Filled → p ≡ Filled)
+  put_received own Filled = (λ e. e, λ e. e)
+  put_received true Stored = (λ e. absurd (cc), λ e. absurd (cc))
+  put_received false Stored = (λ e. e, λ e. e)
+  put_received own Known = (λ e. e, λ e. e)
+  put_received own Stranger = (λ e. e, λ e. e)
+  put_received true OutOfRange = (λ e. absurd (cc), λ e. absurd (cc))
+  put_received false OutOfRange = (λ e. e, λ e. e)
+
+  update_row : (k : Kept) (r : Run) → Origin here (at r) k → IsRead r → Row r (take_update here.now k r).run
+  update_row k r origin read =
+      let put = put_received (is_same_member (sender k.entry.id) (member_of r.process.identity)) (putting (view_decision r.process.belief) k r.process.waiting) in
+      by_putting here.now (received_as r.process k) k r (λ z. Row r z.run) (λ e. filled_row k r origin (put.1 e) read) (λ e. stored_row k r origin (put.0 e) read) (λ reason other. nothing r read)
+
+  -- what is asked for is in the list, or waits
+  had_update : (id : UpdateId) (p : Process) (k : Kept) → held_update id p ≡ Some k → In k (p.log.entries ++ payloads_of p.waiting)
+  had_update id p k is = in_either k (kept_entries p.log) p.log.entries (payloads_of p.waiting) (λ i. in_drop (kept_from p.log - p.log.base) p.log.entries k i) (found_in (is_named id) (kept_entries p.log ++ payloads_of p.waiting) k is).0
 
   question_row : (from : ℕ) (want : Want) (r : Run) → IsRead r → Row r (answer_ask here.now from want r).run
-  question_row from want r read = by_answering here.now from want r (λ z. Row r z.run) (λ k. one_sent from _ r read tt) (nothing r read)
+  question_row from want r read = by_answering here.now from want r (λ z. Row r z.run) (λ id k is. one_sent from _ r read (Again k (had_update id r.process k is) refl)) (nothing r read)
 
   -- a send
 
-  sent_row : (k : Kept) (r : Run) → IsRead r → Row r (update_sent here.team here.now k r)
-  sent_row k r read =
-      let given : Run = seq_given k.entry.id.seq r in
+  sent_row : (k : Kept) (r : Run) → Proposes here (at r) (record { group = (or_none (last_decision r.process)).group; update = k }) → IsRead r → Row r (update_sent here.team here.now k r)
+  sent_row k r may read =
+      let sending : Sending = record { group = (or_none (last_decision r.process)).group; update = k } in
+      let item = send_item (member_of r.process.identity) here.life here.step sending in
+      let given : Run = seq_given k r in
+      let newest : (at given).written.sends ≡ item ∷ (at r).written.sends = send_first (member_of r.process.identity) here.life here.step sending r.sendings before.sends in
+      let known : WasSent (at given).written.sends k = (item, subst (In item) (sym newest) (inl refl), refl) in
       let put : Run = update_put here.now (putting (view_decision r.process.belief) k r.process.waiting) k given in
-      let first : Row r given = one r given (still r given refl refl refl refl refl (Stays refl refl) (same_greatest r.process.timing.clock.greatest) refl refl refl) read in
-      let second : Row given put = put_row (putting (view_decision r.process.belief) k r.process.waiting) k given read in
-      after r put (update_sent here.team here.now k r) (after r given put first second) (others_sent here.team.n (bodies.Update k) put second.read tt)
+      let first : Row r given = one r given (still r given refl refl refl refl refl (Stays refl refl) (SendsOne sending may refl newest) (same_greatest r.process.timing.clock.greatest) refl refl refl) read in
+      let second : Row given put = put_row k given (ByItself known) read in
+      after r put (update_sent here.team here.now k r) (after r given put first second)
+      (others_sent here.team.n (bodies.Update k) put second.read (First (still_sent_all here (at given) (at put) k second.changes known)))
+
+  may_propose : (order : Order) (atom : Atom) (payload : List ℕ) (r : Run) → first_send_refusal (refusals here.team here.now (length payload) r.process) ≡ None → IsRead r
+      → Proposes here (at r) (record { group = (or_none (last_decision r.process)).group; update = own_update here.now order atom payload r.process })
+  may_propose order atom payload r free read = go (own_seat r.process) refl
+    where
+      p : Process
+      p = r.process
+
+      all : AllByRecursion (λ (z : SendRefusal). z.present ≡ false) (refusals here.team here.now (length payload) p)
+      all = none_refused (refusals here.team here.now (length payload) p) free
+
+      up : is_up here.team p.vote p.belief here.now.reading ≡ true
+      up = (both_true (is_up here.team p.vote p.belief here.now.reading) (is_some (own_seat p)) all.1.0).0
+
+      has : is_some (own_seat p) ≡ true
+      has = (both_true (is_up here.team p.vote p.belief here.now.reading) (is_some (own_seat p)) all.1.0).1
+
+      by : Backing here.team p.belief here.now.reading
+      by = backing here.team p.vote p.belief here.now.reading up
+
+      go : (o : Option Seat) → own_seat p ≡ o → Proposes here (at r) (record { group = (or_none (last_decision p)).group; update = own_update here.now order atom payload p })
+      go None none = absurd (let no : false ≡ true = ap is_some (sym none) ∙ has in cc)
+      go (Some s) is =
+          let awaited : awaited_seq (own_seat p) ≡ s.next = ap awaited_seq is in
+          let last_is : last_decision p ≡ Some by.last = ap last_of by.is_last in
+          record {
+            t = by.now;
+            reading = by.is_now;
+            read = read by.now by.is_now;
+            up = subst (λ o. is_up here.team p.vote p.belief o ≡ true) by.is_now up;
+            last = by.last;
+            last_is = last_is;
+            seat = s;
+            seat_is = is;
+            near = let far = all.1.1.0 in grind (arith, nat_tests);
+            order = order;
+            atom = atom;
+            payload = payload;
+            group = ap (λ o. (or_none o).group) last_is;
+            update = ap (λ o. update_of (member_of p.identity) (own_seq p) (unwrap_or o 0) order atom payload) by.is_now;
+          }
 
   propose_row : (order : Order) (atom : Atom) (payload : List ℕ) (r : Run) → IsRead r → Row r (propose here.team here.now order atom payload r).run
   propose_row order atom payload r read = by_proposing here.team here.now order atom payload r (λ z. Row r z.run)
-      (λ free. sent_row (own_update here.now order atom payload r.process) r read) (λ why e. nothing r read)
+      (λ free. sent_row (own_update here.now order atom payload r.process) r (may_propose order atom payload r free read) read) (λ why e. nothing r read)
 
   answer_row : (from number : ℕ) (why : Why) (t : ℕ) (r : Run) → IsRead r → here.now.reading ≡ Some t → Row r (answer_election here.team here.now from number why t r).run
   answer_row from number why t r read reading = go (first_refusal (answer_tests here.team here.now from number why t r.process)) refl
@@ -516,7 +621,7 @@ module _ (here : Here) (before : Written) where
 
   kind_row : (head : Head) (body : Body) (r : Run) → IsRead r → here.mail ≡ Some (record { head = head; body = body }) → Row r (kind_rule here.team here.now head body r).run
   unfolding kind_rule
-  kind_row head (bodies.Update kept) r read mail = update_row kept r read
+  kind_row head (bodies.Update kept) r read mail = update_row kept r (ByMail head mail) read
   kind_row head (bodies.Decision d) r read mail = timely_row head (λ t. take_decision here.now d) r read (λ t e. decision_row head d r read mail)
   kind_row head (bodies.NoDecision number group turn skip reports best) r read mail = nothing r read
   kind_row head (bodies.Election number why) r read mail = timely_row head (answer_election here.team here.now head.from number why) r read (λ t e. answer_row head.from number why t r read e)

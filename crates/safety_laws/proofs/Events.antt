@@ -19,7 +19,7 @@ use Rattle.tw_machine.specs.Hearing.{noted, is_refused, unless_dropped, learn_pa
 use Rattle.tw_machine.specs.Hearing as hearing
 use Rattle.tw_machine.specs.Duties.{duties}
 use Rattle.tw_machine.specs.Step.{learnt_by, moment_of, read_by, event_rule, ruled_by, has_duties, ended_by, looked}
-use Rattle.safety_laws.specs.Effects.{Written, Here, state_of, NotBelow, Stays, Changes}
+use Rattle.safety_laws.specs.Effects.{Written, Here, state_of, NotBelow, Stays, SendsNone, Changes}
 use Rattle.safety_laws.proofs.Effects.{Row, after, still, same_greatest, own_row, duties_row}
 
 -- the datagram that an event brings, where it isn't dropped before its kind's rule
@@ -113,7 +113,7 @@ event_row here before e p now mail = by_duties (has_duties e)
 
     first : Row here before (run_of p) (read_by here.team here.step.h e p)
     first = record {
-      changes = Changes.Then Changes.Done (still here before (run_of p) (read_by here.team here.step.h e p) refl refl refl refl refl (Stays refl refl) learnt refl refl refl);
+      changes = Changes.Then Changes.Done (still here before (run_of p) (read_by here.team here.step.h e p) refl refl refl refl refl (Stays refl refl) (SendsNone refl refl) learnt refl refl refl);
       read = λ t is. read_is_greatest here.team.ppm here.team.eps here.step.h t (learnt_by here.team here.step.h e p).timing.clock (ap (λ (m : Moment). m.reading) (sym now) ∙ is);
     }
 
@@ -130,4 +130,4 @@ event_row here before e p now mail = by_duties (has_duties e)
 -- and so is a look
 pub look_row : (here : Here) (before : Written) (p : Process) → Changes here (state_of here before (run_of p)) (state_of here before (run_of (looked here.team here.step.h p)))
 look_row here before p = Changes.Then Changes.Done
-    (still here before (run_of p) (run_of (looked here.team here.step.h p)) refl refl refl refl refl (Stays refl refl) (read_grows here.team.ppm here.team.eps here.step.h p.timing.clock) refl refl refl)
+    (still here before (run_of p) (run_of (looked here.team here.step.h p)) refl refl refl refl refl (Stays refl refl) (SendsNone refl refl) (read_grows here.team.ppm here.team.eps here.step.h p.timing.clock) refl refl refl)

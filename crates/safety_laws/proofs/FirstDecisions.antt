@@ -22,7 +22,7 @@ use Rattle.tw_types.specs.Reports.{is_by_informed, is_consistent}
 use Rattle.group_maker.proofs.Ascending.{report_of}
 use Rattle.group_maker.proofs.Ranges.{all_kept, all_pass, distinct_kept, find_all, found_of, all_found, seats_ascend, ascending-length, own_report}
 use Rattle.group_maker.proofs.Fitting.{IsWithin, least_within, within, low_of, all_map, owner_low}
-use Rattle.safety_laws.specs.Laws.{In}
+use Rattle.tw_types.specs.Items.{In}
 use Rattle.safety_laws.specs.Made.{reporters, StartsAfter}
 use Rattle.safety_laws.proofs.Lists.{each_weaker, each_from}
 

@@ -12,7 +12,7 @@ use Rattle.tw_types.specs.Decisions.{is_seat_of}
 use Rattle.tw_types.specs.Reports.{is_consistent}
 use Rattle.tw_machine.specs.History.{Promised, Make}
 use Rattle.tw_machine.proofs.Tables.{all_mapped}
-use Rattle.safety_laws.specs.Laws.{In}
+use Rattle.tw_types.specs.Items.{In}
 use Rattle.safety_laws.specs.Made.{members, ComesFrom, Arises, AsFirst, AsNext, AllArise}
 use Rattle.safety_laws.proofs.Counting.{IsMajority}
 use Rattle.safety_laws.proofs.FirstDecisions.{same_member_of}

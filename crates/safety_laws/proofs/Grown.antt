@@ -9,7 +9,7 @@ use Rattle.safety_laws.specs.Effects.{Written, State, Here, Promises, Makes, Rai
 pub data Grown (here : Here) (x y : State) : Type 0 where
   Quiet : y.written.promises ≡ x.written.promises → y.written.makes ≡ x.written.makes → y.written.ups ≡ x.written.ups → Grown here x y
   NewPromise : (c : Promises here x y) → y.written.promises ≡ promise_item here.life here.step c.given ∷ x.written.promises → y.written.makes ≡ x.written.makes → y.written.ups ≡ x.written.ups → Grown here x y
-  NewMake : (c : Makes here x y) → y.written.promises ≡ x.written.promises → y.written.makes ≡ make_item (member_of x.process.identity) here.life here.step c.making ∷ x.written.makes → y.written.ups ≡ x.written.ups → Grown here x y
+  NewMake : (c : Makes here x y) → y.written.promises ≡ x.written.promises → y.written.makes ≡ make_item (member_of x.process.identity) here.life here.step x.written.makes c.making ∷ x.written.makes → y.written.ups ≡ x.written.ups → Grown here x y
   NewUp : (c : Raises here x y) → y.written.promises ≡ x.written.promises → y.written.makes ≡ x.written.makes → y.written.ups ≡ up_at here.life here.step x.process c.t c.last ∷ x.written.ups → Grown here x y
 
 pub grown : (here : Here) (x y : State) → Change here x y → Grown here x y

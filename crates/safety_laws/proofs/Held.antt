@@ -2,17 +2,19 @@
 use Rattle.std.proofs.Common.{◌≡◌, refl, sym, ap, subst, ◌∙◌, Bool, true, false, not, cond, Option, Some, None}
 use Rattle.std.specs.Option.{option_map}
 use Rattle.tw_types.specs.declared.team.Team.{Team}
+use Rattle.tw_types.specs.declared.message.Kept.{Kept}
 use Rattle.tw_types.specs.declared.message.Decision.{Decision}
 use Rattle.tw_types.specs.declared.outputs.Mode.{Mode}
 use Rattle.tw_types.specs.declared.outputs.Mode.TheVariants as modes
 use Rattle.tw_types.specs.Beliefs.{Belief, view_decision}
 use Rattle.tw_types.specs.Decisions.{or_none, is_older, has_seat}
 use Rattle.tw_types.specs.Process.{Identity, Process, ToTake, ToGroup, Hold, started}
-use Rattle.tw_types.specs.Waiting.{Held, released, settled_by}
+use Rattle.tw_types.specs.Waiting.{Held, Waiting, with_payload, released, settled_by}
+use Rattle.std.proofs.lemmas.Option.{same_Some}
 use Rattle.tw_machine.specs.Deciding.{supporting}
 use Rattle.tw_machine.specs.Entering.{is_overtaken, entered}
 use Rattle.tw_machine.specs.Standing.{member_of}
-use Rattle.safety_laws.specs.Effects.{State, Here, held_decision, MayTake, Source, Comes, WasHeld, Holding, Stays, Goes, ForTaking, ForGroup, Change}
+use Rattle.safety_laws.specs.Effects.{State, Here, held_decision, MayTake, Source, Comes, WasHeld, Waits, Stays, Puts, Fills, Goes, ForTaking, ForGroup, Change}
 use Rattle.safety_laws.specs.Held.{IsHeldWell, HoldsWell, held}
 use Rattle.safety_laws.proofs.Stack.{LawRules}
 
@@ -45,6 +47,15 @@ held_after d p = go p.waiting.held refl
     go None is = Left (ap decision_of is)
     go (Some h) is = by_test h is (is_older d.group d.turn h.decision.group h.decision.turn) refl
 
+-- the decision that waits
+abbrev pub decision_waiting : Waiting → Option Decision
+decision_waiting w = option_map (λ (h : Held). h.decision) w.held
+
+-- a payload more leaves it what it was
+pub filled_same : (k : Kept) (o : Option Held) → option_map (λ (z : Held). z.decision) (option_map (with_payload k) o) ≡ option_map (λ (z : Held). z.decision) o
+filled_same k None = refl
+filled_same k (Some h) = refl
+
 -- ---- each effect
 
 same_held : (p q : Process) → q.identity ≡ p.identity → q.belief ≡ p.belief → held_decision q ≡ held_decision p → q.hold ≡ p.hold → HoldsWell p → HoldsWell q
@@ -72,21 +83,23 @@ last_held p q d identity view (Above x is stays hold newer) well = λ e h f g pu
     })
 
 changes : (here : Here) (x y : State) → Change here x y → HoldsWell x.process → HoldsWell y.process
-changes here x y (Change.Keep c) well = go c.held
+changes here x y (Change.Keep c) well = go c.waits
   where
-    go : Holding here x y → HoldsWell y.process
-    go (Stays is hold) = same_held x.process y.process c.identity c.belief is hold well
-    go (Goes none) = none_held y.process none
-    go (ForTaking d source is hold) = λ e h f g purpose.
+    go : Waits here x y → HoldsWell y.process
+    go (Stays is hold) = same_held x.process y.process c.identity c.belief (ap decision_waiting is) hold well
+    go (Puts u origin put is hold) = same_held x.process y.process c.identity c.belief (ap decision_waiting is) hold well
+    go (Fills u origin put is hold) = same_held x.process y.process c.identity c.belief (ap decision_waiting is ∙ filled_same u x.process.waiting.held) hold well
+    go (Goes is hold) = none_held y.process (ap decision_waiting is)
+    go (ForTaking d from source is hold) = λ e h f g purpose.
         let may = may_take here x d source well in
-        let same : d ≡ e = cc in
+        let same : d ≡ e = same_Some d e (sym (ap decision_waiting is) ∙ f) in
         let number : x.process.vote.promised ≡ h.promised = cc in
         subst (λ (z : Decision). IsHeldWell y.process z h) same (record {
           promised = may.promised ∙ number;
           seat = subst (λ (i : Identity). has_seat (member_of i) d ≡ true) (sym c.identity) may.seat;
           newer = subst (λ (b : Belief). is_older (or_none (view_decision b)).group (or_none (view_decision b)).turn d.group d.turn ≡ true) (sym c.belief) may.newer;
         })
-    go (ForGroup ballot best is told kept hold) = λ e h f g purpose. absurd (let no : ToGroup ≡ ToTake = cc in cc)
+    go (ForGroup ballot best from there told number is hold) = λ e h f g purpose. absurd (let no : ToGroup ≡ ToTake = cc in cc)
 changes here x y (Change.Give c) well = same_held x.process y.process (ap (λ (p : Process). p.identity) c.process) (ap (λ (p : Process). p.belief) c.process) (ap held_decision c.process) (ap (λ (p : Process). p.hold) c.process) well
 changes here x y (Change.Hold c) well = same_held x.process y.process (ap (λ (p : Process). p.identity) c.process) (ap (λ (p : Process). p.belief) c.process) (ap held_decision c.process) (ap (λ (p : Process). p.hold) c.process) well
 changes here x y (Change.Raise c) well = rw c.process well

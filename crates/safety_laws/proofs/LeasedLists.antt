@@ -6,7 +6,7 @@ use Rattle.tw_types.specs.declared.message.Member.{Member}
 use Rattle.tw_types.specs.declared.message.Seat.{Seat}
 use Rattle.tw_types.specs.Flag.{counts}
 use Rattle.tw_machine.specs.History.{Promised, Make, Up}
-use Rattle.safety_laws.specs.Laws.{In}
+use Rattle.tw_types.specs.Items.{In}
 use Rattle.safety_laws.specs.Ups.{WasUp}
 use Rattle.safety_laws.proofs.Counting.{IsMajority, processes_by, passes}
 use Rattle.safety_laws.proofs.Leases.{counts_there, counts_at, supported_enough}

@@ -8,7 +8,7 @@ use Rattle.tw_types.specs.declared.message.Support.{Support}
 use Rattle.tw_types.specs.Flag.{counts, is_supported}
 use Rattle.tw_machine.specs.History.{Promised, Make, Up}
 use Rattle.safety_laws.specs.Full.{is_full}
-use Rattle.safety_laws.specs.Laws.{In}
+use Rattle.tw_types.specs.Items.{In}
 use Rattle.safety_laws.specs.Made.{StartsAfter}
 use Rattle.safety_laws.specs.Memory.{IsAtLeast}
 use Rattle.safety_laws.specs.NotAhead.{promise_reading, make_reading}

@@ -11,8 +11,11 @@ pub mod Effects
 pub mod Events
 pub mod Stack
 pub mod Lists
+pub mod Added
 pub mod Grown
 pub mod Held
+pub mod HeldBelow
+pub mod Pending
 pub mod Names
 pub mod NotAhead
 pub mod Waits
@@ -31,6 +34,7 @@ pub mod MadeLists
 pub mod Made
 pub mod MadeRules
 pub mod MadeTold
+pub mod SendsTold
 pub mod Seen
 pub mod MadeLines
 pub mod Once
@@ -45,6 +49,12 @@ pub mod OneGroupLists
 pub mod LeasedLists
 pub mod Ups
 pub mod GroupLaws
+pub mod IdLists
+pub mod Ids
+pub mod SendLaws
 pub mod Safe
 pub mod Under
+pub mod Numbers
+pub mod Supported
 mod Worked
+mod SendsWorked

@@ -10,6 +10,7 @@ use Rattle.tw_types.specs.declared.datagram.Body.TheVariants as bodies
 use Rattle.tw_types.specs.declared.datagram.Datagram.{Datagram}
 use Rattle.tw_types.specs.declared.datagram.Head.{Head}
 use Rattle.tw_types.specs.declared.message.Entry.{Entry}
+use Rattle.tw_types.specs.declared.message.Kept.{Kept}
 use Rattle.tw_types.specs.declared.message.Decision.{Decision}
 use Rattle.tw_types.specs.declared.message.Member.{Member}
 use Rattle.tw_types.specs.declared.message.Report.{Report}
@@ -29,13 +30,14 @@ use Rattle.tw_machine.specs.Dispatches.{Dispatch, sent_at}
 use Rattle.tw_machine.specs.History.{Promised, life, promise_item, make_item}
 use Rattle.tw_machine.specs.History as items
 use Rattle.tw_machine.specs.Standing.{member_of, last_decision, report_by}
-use Rattle.tw_machine.specs.Deciding.{entries_to_add}
+use Rattle.tw_machine.specs.Deciding.{entries_to_add, kept_to_add}
 use Rattle.tw_machine.specs.Entering.{entered}
 use Rattle.tw_machine.specs.World.{world}
 use Rattle.tw_machine.proofs.Tables.{all_joined, all_mapped, all_push}
-use Rattle.safety_laws.specs.Effects.{Written, State, Here, Says, IsToldBy, held_decision, Source, Comes, WasHeld, Holding, Stays, Goes, ForTaking, ForGroup, Promises, BallotReason, Begins, Adds, Drops, MakeReason, Next, Group, Makes, Change}
+use Rattle.safety_laws.specs.Effects.{Written, State, Here, Says, IsToldBy, held_decision, Source, Comes, WasHeld, Waits, Stays, Puts, Fills, Goes, ForTaking, ForGroup, Promises, BallotReason, Begins, Adds, Drops, MakeReason, Next, Group, Makes, Change}
 use Rattle.safety_laws.specs.Full.{is_full}
-use Rattle.safety_laws.specs.Laws.{Holds, In}
+use Rattle.safety_laws.specs.Laws.{Holds}
+use Rattle.tw_types.specs.Items.{In}
 use Rattle.safety_laws.specs.Made.{WasMade, WasMadeIfAny, WasReported, TellsLast, TellsDecision, best_of, carried, Follows, ComesFrom, Arises, AsFirst, AsNext, IsUnderPromise, HasSeat, BallotHolds, IsBest, OfMaker, StartsAfter, made}
 use Rattle.safety_laws.specs.Mail.{WasGiven, TellsGiven}
 use Rattle.safety_laws.specs.Names.{promise_name, IsNamed}
@@ -43,7 +45,8 @@ use Rattle.safety_laws.specs.Promises.{of_promises}
 use Rattle.safety_laws.specs.Windows.{IsInWindow}
 use Rattle.safety_laws.proofs.Ballots.{best_pushed, best_first, in_pushed, still_distinct, greater_is}
 use Rattle.safety_laws.proofs.FirstDecisions.{IsFirstOf, first_of_ballot, are_distinct, were_distinct}
-use Rattle.safety_laws.proofs.Held.{may_take, HeldBelow, Left, Above, held_after}
+use Rattle.safety_laws.proofs.Held.{may_take, HeldBelow, Left, Above, held_after, filled_same}
+use Rattle.safety_laws.proofs.Added.{entries_kept}
 use Rattle.safety_laws.proofs.Lists.{of_each, each_weaker}
 use Rattle.safety_laws.proofs.MadeLists.{More, more_same, more_by, if_any_more, tells_more, arise_more, under_more, ballot_more, maker_more, seat_same, seat_other_promise, seat_other_make, last_made, own_group}
 use Rattle.safety_laws.proofs.NextDecisions.{seat_due, next_seat, after_in, in_changed, next_length, appended_length, same_supported, seat_stays}
@@ -82,11 +85,13 @@ module _ (team : Team) (past : List Step) (s : Step) (here : Here) (x y : State)
   source_made d (Comes head mail may) = carried_by_mail (record { head = head; body = bodies.Decision d }) mail
   source_made d (WasHeld hold is held purpose promised) = subst (WasMadeIfAny x.written.makes) is k.own.keeps.held
 
-  held_kept : Holding here x y → WasMadeIfAny x.written.makes (held_decision y.process)
+  held_kept : Waits here x y → WasMadeIfAny x.written.makes (held_decision y.process)
   held_kept (Stays is hold) = rw is k.own.keeps.held
-  held_kept (Goes none) = rw none tt
-  held_kept (ForTaking d source is hold) = rw is (source_made d source)
-  held_kept (ForGroup ballot best is told held hold) = rw held (subst (WasMadeIfAny x.written.makes) (ap best_of is ∙ told) k.own.keeps.best)
+  held_kept (Puts u origin put is hold) = rw is k.own.keeps.held
+  held_kept (Fills u origin put is hold) = rw (is, filled_same u x.process.waiting.held) k.own.keeps.held
+  held_kept (Goes is hold) = rw is tt
+  held_kept (ForTaking d from source is hold) = rw is (source_made d source)
+  held_kept (ForGroup ballot best from there told number is hold) = rw is (subst (WasMadeIfAny x.written.makes) (ap best_of there ∙ told) k.own.keeps.best)
 
   entered_made : (d : Decision) → WasMadeIfAny x.written.makes (held_decision (entered d x.process))
   entered_made d = go (held_after d x.process)
@@ -160,11 +165,11 @@ module _ (team : Team) (past : List Step) (s : Step) (here : Here) (x y : State)
   -- ---- a make
 
   new_make : Makes here x y → items.Make
-  new_make c = make_item (member_of x.process.identity) here.life here.step c.making
+  new_make c = make_item (member_of x.process.identity) here.life here.step x.written.makes c.making
 
-  next_follows : (c : Makes here x y) → (entries : List Entry) → (last : Decision) → last_decision x.process ≡ Some last → is_turn here.team (member_of x.process.identity) (Some last) x.process.vote.promised c.t ≡ true
-      → c.making ≡ next_making last (next_decision entries last c.t x.process.identity.who) → Follows x.written.makes (make_item (member_of x.process.identity) here.life here.step c.making) last
-  next_follows c entries last is turn same =
+  next_follows : (c : Makes here x y) → (entries : List Entry) → (appended : List Kept) → map (λ (u : Kept). u.entry) appended ≡ entries → (last : Decision) → last_decision x.process ≡ Some last → is_turn here.team (member_of x.process.identity) (Some last) x.process.vote.promised c.t ≡ true
+      → c.making ≡ next_making last appended (next_decision entries last c.t x.process.identity.who) → Follows x.written.makes (make_item (member_of x.process.identity) here.life here.step x.written.makes c.making) last
+  next_follows c entries appended added last is turn same =
       let d : Decision = next_decision entries last c.t x.process.identity.who in
       let ring = next_seat (member_of x.process.identity) last (seat_due here.team (member_of x.process.identity) last x.process.vote.promised c.t turn) in
       let seat_in = after_in last.maker last.seats.items ring.0 ring.1 in
@@ -172,7 +177,7 @@ module _ (team : Team) (past : List Step) (s : Step) (here : Here) (x y : State)
       let mine : ring.0.member.who ≡ x.process.identity.who = ap (λ (m : Member). m.who) ring.2 in
       let same_length = next_length entries last c.t x.process.identity.who ring.0 seat_in mine in
       let longer : decision_length d ≡ decision_length last + length entries = same_length ∙ appended_length entries (next_draft last c.t x.process.identity.who) in
-      subst (λ (making : Making). Follows x.written.makes (make_item (member_of x.process.identity) here.life here.step making) last) (sym same) (record {
+      subst (λ (making : Making). Follows x.written.makes (make_item (member_of x.process.identity) here.life here.step x.written.makes making) last) (sym same) (record {
         was_made = last_made x.written.makes x.process last k.own.keeps is;
         before = refl;
         reports = refl;
@@ -182,13 +187,14 @@ module _ (team : Team) (past : List Step) (s : Step) (here : Here) (x y : State)
         maker = who;
         ring = ring;
         entries = entries;
+        appended = added;
         longer = longer;
         seats = same_supported (map (raised entries) last.seats.items) x.process.identity.who here.step.who (decision_length (with_appended entries (next_draft last c.t x.process.identity.who))) (decision_length d) c.t who (sym same_length);
       })
 
   -- a ballot of which a group is made
   group_comes : (c : Makes here x y) → (ballot : Ballot) → x.process.ballot ≡ Some ballot → IsFirstOf team ballot (member_of x.process.identity) c.t c.making.decision → c.making ≡ group_making ballot c.making.decision
-      → ComesFrom team x.written.promises x.written.makes (make_item (member_of x.process.identity) here.life here.step c.making)
+      → ComesFrom team x.written.promises x.written.makes (make_item (member_of x.process.identity) here.life here.step x.written.makes c.making)
   group_comes c ballot is first same =
       let b = k.own.ballot ballot is in
       let reports : c.making.reports ≡ ballot.reports.items = ap (λ (m : Making). m.reports) same in
@@ -211,7 +217,7 @@ module _ (team : Team) (past : List Step) (s : Step) (here : Here) (x y : State)
         own_seat = first.own_seat;
         maker = first.maker ∙ before.own.own.is ∙ sym me;
         supports = first.supports;
-        starts = subst (AllByRecursion (StartsAfter team (is_full (make_item (member_of x.process.identity) here.life here.step c.making)) c.making.decision.start)) (sym reports) (first.starts (is_full (make_item (member_of x.process.identity) here.life here.step c.making)));
+        starts = subst (AllByRecursion (StartsAfter team (is_full (make_item (member_of x.process.identity) here.life here.step x.written.makes c.making)) c.making.decision.start)) (sym reports) (first.starts (is_full (make_item (member_of x.process.identity) here.life here.step x.written.makes c.making)));
         starts_later = λ d e. first.starts_later d (sym best ∙ e);
       }
     where
@@ -241,17 +247,17 @@ module _ (team : Team) (past : List Step) (s : Step) (here : Here) (x y : State)
       first_of_ballot team ballot x.process.log (payloads_of x.process.waiting) (member_of x.process.identity) c.t c.making.decision b.below (were_distinct ballot.reports.items b.distinct)
       (subst (λ (t : Team). group_made t ballot x.process.log (payloads_of x.process.waiting) (member_of x.process.identity) c.t ≡ Ok c.making.decision) at.same_team e)
 
-  new_arises : (c : Makes here x y) → Arises team x.written.promises x.written.makes (make_item (member_of x.process.identity) here.life here.step c.making)
+  new_arises : (c : Makes here x y) → Arises team x.written.promises x.written.makes (make_item (member_of x.process.identity) here.life here.step x.written.makes c.making)
   new_arises c = go c.reason
     where
-      go : MakeReason here c.making c.t x y → Arises team x.written.promises x.written.makes (make_item (member_of x.process.identity) here.life here.step c.making)
-      go (Next last is turn same ballot) = AsNext last (next_follows c (entries_to_add here.team c.t last x.process) last is turn same)
+      go : MakeReason here c.making c.t x y → Arises team x.written.promises x.written.makes (make_item (member_of x.process.identity) here.life here.step x.written.makes c.making)
+      go (Next last is turn same ballot) = AsNext last (next_follows c (entries_to_add here.team c.t last x.process) (kept_to_add here.team c.t last x.process) (entries_kept here.team c.t last x.process) last is turn same)
       go (Group ballot is full e same none) = let first = is_group c ballot is e in AsFirst first.turn (group_comes c ballot is first same)
 
-  new_under : (c : Makes here x y) → IsUnderPromise x.written.promises (make_item (member_of x.process.identity) here.life here.step c.making)
+  new_under : (c : Makes here x y) → IsUnderPromise x.written.promises (make_item (member_of x.process.identity) here.life here.step x.written.makes c.making)
   new_under c = go c.reason
     where
-      go : MakeReason here c.making c.t x y → IsUnderPromise x.written.promises (make_item (member_of x.process.identity) here.life here.step c.making)
+      go : MakeReason here c.making c.t x y → IsUnderPromise x.written.promises (make_item (member_of x.process.identity) here.life here.step x.written.makes c.making)
       go (Next last is turn same ballot) =
           let own = own_group team steps x.written s.who x.process last before.history before.own k.history.arise k.own is in
           let group : c.making.decision.group ≡ last.group = ap (λ (m : Making). m.decision.group) same in
@@ -403,7 +409,7 @@ module _ (team : Team) (past : List Step) (s : Step) (here : Here) (x y : State)
       (subst (λ ms. AllByRecursion (λ (z : Dispatch). WasMadeIfAny ms (carried z.datagram.body)) x.written.sent) (sym c.makes) k.history.carried_made)
       (all_mapped (λ (z : Dispatch). WasMadeIfAny y.written.makes (carried z.datagram.body)) (sent_at here.step.t) c.new
       (each_weaker (IsToldBy here y) (λ (d : ℕ × Datagram). WasMadeIfAny y.written.makes (carried d.1.body)) c.new (λ d told. told_made d.1.body c.promises c.makes c.belief told.says) c.told))))
-      (same_maker c.promises c.makes c.identity c.belief c.ballot (held_kept c.held))
+      (same_maker c.promises c.makes c.identity c.belief c.ballot (held_kept c.waits))
   changed (Change.Raise c) =
       let promises : y.written.promises ≡ x.written.promises = ap (λ (w : Written). w.promises) c.written in
       let makes : y.written.makes ≡ x.written.makes = ap (λ (w : Written). w.makes) c.written in
@@ -464,7 +470,7 @@ module _ (team : Team) (past : List Step) (s : Step) (here : Here) (x y : State)
           rw last (subst (HasSeat steps x.written s.who x.process) last h)
       given_seat c promises makes (Blank followed) is informed h = absurd (let no : true ≡ false = sym informed ∙ ap is_informed is in cc)
   changed (Change.Make c) =
-      let new = make_item (member_of x.process.identity) here.life here.step c.making in
+      let new = make_item (member_of x.process.identity) here.life here.step x.written.makes c.making in
       let promises : y.written.promises ≡ x.written.promises = ap (λ (w : Written). w.promises) c.written in
       let makes : y.written.makes ≡ new ∷ x.written.makes = ap (λ (w : Written). w.makes) c.written in
       let more : More x.written.makes y.written.makes = more_by x.written.makes y.written.makes new makes in

@@ -16,7 +16,7 @@ use Rattle.tw_machine.specs.Rows.{rows_of}
 use Rattle.tw_machine.specs.Started.{makings, making_of, members_of, has_started, started_at}
 use Rattle.tw_machine.specs.World.{Admissible}
 use Rattle.tw_machine.proofs.Started.{started_is_greatest, none_has_started}
-use Rattle.safety_laws.specs.Laws.{In}
+use Rattle.tw_types.specs.Items.{In}
 use Rattle.safety_laws.specs.Made.{WasMade, AllArise, members, Begins}
 use Rattle.safety_laws.specs.Once.{AllOnce}
 use Rattle.safety_laws.specs.Seen.{IsMadeLineOf}

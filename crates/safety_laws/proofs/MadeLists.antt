@@ -14,7 +14,7 @@ use Rattle.tw_types.specs.Process.{Process}
 use Rattle.tw_machine.specs.History.{Promised, Make, life}
 use Rattle.tw_machine.specs.Standing.{member_of, last_decision}
 use Rattle.safety_laws.specs.Effects.{Written}
-use Rattle.safety_laws.specs.Laws.{In}
+use Rattle.tw_types.specs.Items.{In}
 use Rattle.safety_laws.specs.Made.{WasMade, WasMadeIfAny, WasReported, TellsLast, TellsDecision, KeepsMade, ComesFrom, Arises, AsFirst, AsNext, AllArise, IsUnderPromise, HasSeat, BallotHolds, OfMaker}
 use Rattle.safety_laws.specs.Names.{promise_name, IsNamed, IsOfLife, Present, Earlier, IsOwn}
 use Rattle.safety_laws.specs.Promises.{OfPromises, OfPromiser}

@@ -33,7 +33,7 @@ use Rattle.tw_machine.specs.Updating.{use_if_whole, update_kept, update_put, rec
 use Rattle.tw_machine.specs.Proposing.{own_update, seq_given, update_sent, propose}
 use Rattle.tw_machine.specs.Taking.{take_decision}
 use Rattle.tw_machine.specs.Electing.{answer_tests, election_answered, answer_election, ballot_dropped, has_spent_ballot, drop_ballot, holds_election, election_begun, begin_election}
-use Rattle.tw_machine.specs.Deciding.{decision_made, has_turn, entries_to_add, turn_taken, take_turn}
+use Rattle.tw_machine.specs.Deciding.{decision_made, has_turn, entries_to_add, turn_taken, take_turn, next_made}
 use Rattle.tw_machine.specs.Grouping.{promise_added, take_promise, make_group}
 use Rattle.tw_machine.specs.Beating.{is_due, beat_marked, is_repeated, repeat_decision, ask_again, beat_given, give_beat}
 use Rattle.tw_machine.specs.Rules.{kind_rule, rule}
@@ -93,7 +93,7 @@ turn_agrees : (team : Team) (now : Moment) (t : ℕ) (r : Run) → IsIdle r → 
 turn_agrees team now t r idle reading = go (last_decision r.process)
   where
     by_test : (last : Decision) → (test : Bool) → Agrees now (cond test (turn_taken team now last t r) r)
-    by_test last true = made_agrees team now (next_making last (next_decision (entries_to_add team t last r.process) last t r.process.identity.who)) t r idle reading refl
+    by_test last true = made_agrees team now (next_made team t last r.process) t r idle reading refl
     by_test last false = idle_agrees now r idle
 
     go : (o : Option Decision) → Agrees now (elim o as (λ o. Run) [ None ↦ r | Some last ↦ cond (has_turn team t r.process) (turn_taken team now last t r) r ])
@@ -198,16 +198,16 @@ filled_none : (now : Moment) (k : Kept) (r : Run) → MakesNone r (use_if_whole 
 filled_none now k r = let used = use_none now (update_kept Filled k r) in record { line = used.line; told = used.told }
 
 update_none : (now : Moment) (k : Kept) (r : Run) → MakesNone r (take_update now k r).run
-update_none now k r = by_putting now (received_as r.process k) k r (λ z. MakesNone r z.run) (filled_none now k r) (record { line = refl; told = refl }) (λ reason other. same r)
+update_none now k r = by_putting now (received_as r.process k) k r (λ z. MakesNone r z.run) (λ e. filled_none now k r) (λ e. record { line = refl; told = refl }) (λ reason other. same r)
 
 ask_back_none : (now : Moment) (from : ℕ) (want : Want) (r : Run) → MakesNone r (answer_ask now from want r).run
-ask_back_none now from want r = by_answering now from want r (λ z. MakesNone r z.run) (λ k. record { line = refl; told = refl }) (same r)
+ask_back_none now from want r = by_answering now from want r (λ z. MakesNone r z.run) (λ id k e. record { line = refl; told = refl }) (same r)
 
 put_none : (now : Moment) (p : Putting) (k : Kept) (r : Run) → MakesNone r (update_put now p k r)
-put_none now p k r = by_kept now p k r (MakesNone r) (same r) (record { line = refl; told = refl }) (filled_none now k r)
+put_none now p k r = by_kept now p k r (MakesNone r) (same r) (λ e. record { line = refl; told = refl }) (λ e. filled_none now k r)
 
 sent_none : (team : Team) (now : Moment) (k : Kept) (r : Run) → MakesNone r (update_sent team now k r)
-sent_none team now k r = let put = put_none now (putting (view_decision r.process.belief) k r.process.waiting) k (seq_given k.entry.id.seq r) in record { line = put.line; told = put.told }
+sent_none team now k r = let put = put_none now (putting (view_decision r.process.belief) k r.process.waiting) k (seq_given k r) in record { line = put.line; told = put.told }
 
 propose_none : (team : Team) (now : Moment) (order : Order) (atom : Atom) (payload : List ℕ) (r : Run) → MakesNone r (propose team now order atom payload r).run
 propose_none team now order atom payload r = by_proposing team now order atom payload r (λ z. MakesNone r z.run) (λ free. sent_none team now (own_update now order atom payload r.process) r) (λ why e. same r)

@@ -63,7 +63,7 @@ changes team past s here x y at change before k = go change
         (λ lost. absurd (let informed : true ≡ false = ap (λ (p : Process). is_informed p.belief) (sym c.process) ∙ lost in cc))
     go (Change.Raise c) = same (ap (λ (w : Written). w.makes) c.written) (ap (λ (p : Process). p.vote.support) c.process) (ap (λ (p : Process). p.identity) c.process) (λ lost. ap (λ (p : Process). is_informed p.belief) (sym c.process) ∙ lost)
     go (Change.Make c) =
-        let new = make_item (member_of x.process.identity) here.life here.step c.making in
+        let new = make_item (member_of x.process.identity) here.life here.step x.written.makes c.making in
         let makes : y.written.makes ≡ new ∷ x.written.makes = ap (λ (w : Written). w.makes) c.written in
         let support : y.process.vote.support ≡ Some c.t = ap (λ (p : Process). p.vote.support) c.process in
         record {

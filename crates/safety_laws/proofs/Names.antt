@@ -85,7 +85,7 @@ life_grows past s who l low = go (nat_eq s.who who && is_start s.act)
     go true = omega arith
     go false = low
 
-named_still : (past : List Step) (s : Step) (name : Name) → IsNamed past name → IsNamed (s ∷ past) name
+pub named_still : (past : List Step) (s : Step) (name : Name) → IsNamed past name → IsNamed (s ∷ past) name
 named_still past s name k = record { member = k.member; started = k.started; life = life_grows past s name.who name.life k.life; read = inr k.read; incarnation = k.incarnation }
 
 up_still : (past : List Step) (s : Step) (up : Up) → IsNamedUp past up → IsNamedUp (s ∷ past) up
@@ -114,7 +114,7 @@ remains past s w who p same k = record {
 }
 
 -- an item that was written down before a start is of an earlier life
-earlier_life : (team : Team) (past : List Step) (s : Step) (mode : Mode) (name : Name) → Admissible team (s ∷ past) → s.act ≡ start_by mode → life s.who (s ∷ past) ≡ suc (life s.who past)
+pub earlier_life : (team : Team) (past : List Step) (s : Step) (mode : Mode) (name : Name) → Admissible team (s ∷ past) → s.act ≡ start_by mode → life s.who (s ∷ past) ≡ suc (life s.who past)
     → IsNamed past name → name.who ≡ s.who → IsOfLife (life s.who (s ∷ past)) (started s.who mode s.h) s.t name
 earlier_life team past s mode name ok act more k mine =
     let read : HasRead past s.who name.t name.h = subst (λ q. HasRead past q name.t name.h) mine k.read in
@@ -146,15 +146,15 @@ begins team past s w mode ok act more k = record {
 -- ---- an effect
 
 -- an item of the present life of the step's process, at the step
-record IsNew (past : List Step) (s : Step) (p : Process) (name : Name) : Type 0 where
-  who : name.who ≡ s.who
-  member : name.member.who ≡ s.who
-  life : name.life ≡ life s.who (s ∷ past)
-  t : name.t ≡ s.t
-  h : name.h ≡ s.h
-  incarnation : name.member.incarnation ≡ p.identity.incarnation
+pub record IsNew (past : List Step) (s : Step) (p : Process) (name : Name) : Type 0 where
+  pub who : name.who ≡ s.who
+  pub member : name.member.who ≡ s.who
+  pub life : name.life ≡ life s.who (s ∷ past)
+  pub t : name.t ≡ s.t
+  pub h : name.h ≡ s.h
+  pub incarnation : name.member.incarnation ≡ p.identity.incarnation
 
-new_named : (team : Team) (past : List Step) (s : Step) (x : State) (name : Name) → Admissible team (s ∷ past) → 1 ≤ life s.who (s ∷ past) → IsOwn (s ∷ past) x.written s.who x.process → IsNew past s x.process name → IsNamed (s ∷ past) name
+pub new_named : (team : Team) (past : List Step) (s : Step) (x : State) (name : Name) → Admissible team (s ∷ past) → 1 ≤ life s.who (s ∷ past) → IsOwn (s ∷ past) x.written s.who x.process → IsNew past s x.process name → IsNamed (s ∷ past) name
 new_named team past s x name ok alive own new = record {
   member = new.member ∙ sym new.who;
   started = rw new.life alive;
@@ -226,7 +226,7 @@ changes team past s here x y at change k = go (grown here x y change)
       incarnation = ap (λ (r : Report). r.member.incarnation) c.report;
     }
 
-    new_make : (c : Makes here x y) → IsNew past s x.process (make_name (make_item (member_of x.process.identity) here.life here.step c.making))
+    new_make : (c : Makes here x y) → IsNew past s x.process (make_name (make_item (member_of x.process.identity) here.life here.step x.written.makes c.making))
     new_make c = record {
       who = ap (λ (e : Step). e.who) at.same_step;
       member = k.own.is;
@@ -256,11 +256,11 @@ changes team past s here x y at change k = go (grown here x y change)
     go (NewMake c promises makes ups) = let new = new_make c in record {
       history = record {
         promises = rw promises k.history.promises;
-        makes = rw makes (new_named team past s x (make_name (make_item (member_of x.process.identity) here.life here.step c.making)) at.ok k.own.lives k.own new, k.history.makes);
+        makes = rw makes (new_named team past s x (make_name (make_item (member_of x.process.identity) here.life here.step x.written.makes c.making)) at.ok k.own.lives k.own new, k.history.makes);
         ups = rw ups k.history.ups;
       };
       own = own_grows past s x.written y.written s.who y.process own (λ begun all. rw promises all)
-          (λ begun all. rw makes ((λ mine. present past s y.process begun (make_name (make_item (member_of x.process.identity) here.life here.step c.making)) (of_same (make_name (make_item (member_of x.process.identity) here.life here.step c.making)) new)), all));
+          (λ begun all. rw makes ((λ mine. present past s y.process begun (make_name (make_item (member_of x.process.identity) here.life here.step x.written.makes c.making)) (of_same (make_name (make_item (member_of x.process.identity) here.life here.step x.written.makes c.making)) new)), all));
       others = λ q p other runs. own_grows past s x.written y.written q p (k.others q p other runs) (λ begun all. rw promises all)
           (λ begun all. rw makes ((λ mine. absurd (other (sym new.who ∙ mine))), all));
     }

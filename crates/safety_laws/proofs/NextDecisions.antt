@@ -13,7 +13,7 @@ use Rattle.tw_types.specs.Decisions.{decision_length, is_same_member, is_seat_of
 use Rattle.tw_types.specs.Slots.{seat_after}
 use Rattle.tw_types.specs.Appending.{raised, with_appended}
 use Rattle.tw_types.specs.Turns.{is_turn, is_next, next_draft, supported, acks, least, raised_low, cut_to, with_own_support, finished, next_decision}
-use Rattle.safety_laws.specs.Laws.{In}
+use Rattle.tw_types.specs.Items.{In}
 use Rattle.safety_laws.proofs.FirstDecisions.{same_member_of, same_member, or_later}
 
 -- ---- the ring

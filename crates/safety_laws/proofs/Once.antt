@@ -6,6 +6,7 @@ use Rattle.std.proofs.lemmas.Bool.Decides.{nat_tests}
 use Rattle.tw_types.specs.declared.team.Team.{Team}
 use Rattle.tw_types.specs.declared.ballot.Ballot.{Ballot}
 use Rattle.tw_types.specs.declared.message.Entry.{Entry}
+use Rattle.tw_types.specs.declared.message.Kept.{Kept}
 use Rattle.tw_types.specs.declared.message.Decision.{Decision}
 use Rattle.tw_types.specs.declared.message.Member.{Member}
 use Rattle.tw_types.specs.declared.message.Seat.{Seat}
@@ -25,11 +26,12 @@ use Rattle.tw_types.specs.Votes.{Promise, Making}
 use Rattle.tw_machine.specs.History.{Promised, life, promise_item, make_item}
 use Rattle.tw_machine.specs.History as items
 use Rattle.tw_machine.specs.Standing.{member_of, last_decision}
-use Rattle.tw_machine.specs.Deciding.{entries_to_add}
+use Rattle.tw_machine.specs.Deciding.{entries_to_add, kept_to_add}
 use Rattle.tw_machine.specs.World.{world}
 use Rattle.safety_laws.specs.Ascend.{IsBelow, Ascends}
 use Rattle.safety_laws.specs.Effects.{Written, State, Here, BallotReason, Begins, Adds, Drops, MayTake, Takes, MakeReason, Next, Group, Makes, Change}
-use Rattle.safety_laws.specs.Laws.{Law, Holds, Both, In}
+use Rattle.safety_laws.specs.Laws.{Law, Holds, Both}
+use Rattle.tw_types.specs.Items.{In}
 use Rattle.safety_laws.specs.Made.{IsBeginOf, IsNotOlder, WasMade, TellsLast, TellsDecision, Arises, AsFirst, AsNext, IsUnderPromise, BallotHolds, OfMakes, OfMaker, made}
 use Rattle.safety_laws.specs.Memory.{memory}
 use Rattle.safety_laws.specs.Names.{promise_name, make_name, IsNamed, IsOfLife, Present, Earlier}
@@ -172,14 +174,14 @@ module _ (team : Team) (past : List Step) (s : Step) (here : Here) (x y : State)
   group_is : (c : Makes here x y) → (ballot : Ballot) → x.process.ballot ≡ Some ballot → group_made here.team ballot x.process.log (payloads_of x.process.waiting) (member_of x.process.identity) c.t ≡ Ok c.making.decision → IsFirstOf team ballot (member_of x.process.identity) c.t c.making.decision
   group_is = is_group team past s here x y at mailed change early early_after made_before
 
-  next_pair : (c : Makes here x y) → (entries : List Entry) → (last : Decision) → c.making ≡ next_making last (next_decision entries last c.t x.process.identity.who) → (c.making.decision.group ≡ last.group) × (c.making.decision.turn ≡ suc last.turn)
-  next_pair c entries last same = (ap (λ (m : Making). m.decision.group) same, ap (λ (m : Making). m.decision.turn) same ∙ omega arith)
+  next_pair : (c : Makes here x y) → (entries : List Entry) → (appended : List Kept) → (last : Decision) → c.making ≡ next_making last appended (next_decision entries last c.t x.process.identity.who) → (c.making.decision.group ≡ last.group) × (c.making.decision.turn ≡ suc last.turn)
+  next_pair c entries appended last same = (ap (λ (m : Making). m.decision.group) same, ap (λ (m : Making). m.decision.turn) same ∙ omega arith)
 
-  new_once : (c : Makes here x y) → AllByRecursion (λ (d : items.Make). SamePair (make_item (member_of x.process.identity) here.life here.step c.making) d → ⊥) x.written.makes
-  new_once c = each_from (λ (d : items.Make). SamePair (make_item (member_of x.process.identity) here.life here.step c.making) d → ⊥) x.written.makes (λ d i same. go c.reason d i same)
+  new_once : (c : Makes here x y) → AllByRecursion (λ (d : items.Make). SamePair (make_item (member_of x.process.identity) here.life here.step x.written.makes c.making) d → ⊥) x.written.makes
+  new_once c = each_from (λ (d : items.Make). SamePair (make_item (member_of x.process.identity) here.life here.step x.written.makes c.making) d → ⊥) x.written.makes (λ d i same. go c.reason d i same)
     where
-      go : MakeReason here c.making c.t x y → (d : items.Make) → In d x.written.makes → SamePair (make_item (member_of x.process.identity) here.life here.step c.making) d → ⊥
-      go (Next last is turn eq ballot) d i same = let pair = next_pair c (entries_to_add here.team c.t last x.process) last eq in not_made_next c last is turn d i (sym same.0 ∙ pair.0, sym same.1 ∙ pair.1)
+      go : MakeReason here c.making c.t x y → (d : items.Make) → In d x.written.makes → SamePair (make_item (member_of x.process.identity) here.life here.step x.written.makes c.making) d → ⊥
+      go (Next last is turn eq ballot) d i same = let pair = next_pair c (entries_to_add here.team c.t last x.process) (kept_to_add here.team c.t last x.process) last eq in not_made_next c last is turn d i (sym same.0 ∙ pair.0, sym same.1 ∙ pair.1)
       go (Group ballot is full e eq none) d i same =
           of_each (λ (m : items.Make). m.making.decision.group ≢ ballot.number) x.written.makes d (k.own.1 ballot is) i (sym same.0 ∙ (group_is c ballot is e).group)
 
@@ -189,7 +191,7 @@ module _ (team : Team) (past : List Step) (s : Step) (here : Here) (x y : State)
     where
       go : MakeReason here c.making c.t x y → IsNotOlder c.making.decision.group c.making.decision.turn d.making.decision.group d.making.decision.turn
       go (Next last is turn eq ballot) =
-          let pair = next_pair c (entries_to_add here.team c.t last x.process) last eq in
+          let pair = next_pair c (entries_to_add here.team c.t last x.process) (kept_to_add here.team c.t last x.process) last eq in
           let low = above_last last is d i by in
           more last.group last.turn c.making.decision.group c.making.decision.turn d.making.decision.group d.making.decision.turn low pair.0 pair.1
         where
@@ -357,7 +359,7 @@ module _ (team : Team) (past : List Step) (s : Step) (here : Here) (x y : State)
       go : MakeReason here c.making c.t x y → ⊥
       go (Next last is turn eq ballot) =
           let was = last_made x.written.makes x.process last maker.keeps is in
-          of_each (λ (m : items.Make). m.making.decision.group ≢ b.number) x.written.makes was.0 unmade was.1 (ap (λ (z : Decision). z.group) was.2 ∙ sym (next_pair c (entries_to_add here.team c.t last x.process) last eq).0 ∙ same)
+          of_each (λ (m : items.Make). m.making.decision.group ≢ b.number) x.written.makes was.0 unmade was.1 (ap (λ (z : Decision). z.group) was.2 ∙ sym (next_pair c (entries_to_add here.team c.t last x.process) (kept_to_add here.team c.t last x.process) last eq).0 ∙ same)
       go (Group ballot is full e eq none) =
           let first = group_is c ballot is e in
           let h = maker.ballot ballot is in
@@ -378,7 +380,7 @@ module _ (team : Team) (past : List Step) (s : Step) (here : Here) (x y : State)
         others = λ q p other runs. let o = k.others q p other runs in (λ informed. rw eq (o.0 informed), λ b is. rw eq (o.1 b is));
       }
   changed (Change.Make c) =
-      let new = make_item (member_of x.process.identity) here.life here.step c.making in
+      let new = make_item (member_of x.process.identity) here.life here.step x.written.makes c.making in
       let eq : y.written.makes ≡ new ∷ x.written.makes = ap (λ (w : Written). w.makes) c.written in
       let last : last_decision y.process ≡ Some c.making.decision = ap (λ (p : Process). last_decision p) c.process in
       record {

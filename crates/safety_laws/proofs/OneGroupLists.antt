@@ -6,7 +6,7 @@ use Rattle.tw_types.specs.declared.team.Team.{Team}
 use Rattle.tw_types.specs.declared.message.Decision.{Decision}
 use Rattle.tw_types.specs.declared.message.Seat.{Seat}
 use Rattle.tw_machine.specs.History.{Promised, Make, Up}
-use Rattle.safety_laws.specs.Laws.{In}
+use Rattle.tw_types.specs.Items.{In}
 use Rattle.safety_laws.specs.Made.{members}
 use Rattle.safety_laws.specs.Once.{AllOnce}
 use Rattle.safety_laws.specs.Ups.{WasUp}

@@ -10,7 +10,8 @@ use Rattle.tw_machine.specs.History as items
 use Rattle.tw_machine.specs.Standing.{member_of}
 use Rattle.tw_machine.specs.World.{world}
 use Rattle.safety_laws.specs.Effects.{State, Here, Promises, Makes}
-use Rattle.safety_laws.specs.Laws.{Holds, Both, In}
+use Rattle.safety_laws.specs.Laws.{Holds, Both}
+use Rattle.tw_types.specs.Items.{In}
 use Rattle.safety_laws.specs.Names.{promise_name, make_name, IsNamed, IsOfLife, Present, Earlier, IsOwn, names}
 use Rattle.safety_laws.specs.NotAhead.{make_reading, not_ahead}
 use Rattle.safety_laws.specs.Outlived.{OutlivesAll, outlived}
@@ -39,9 +40,9 @@ promise_outlives team past s here x y at c k =
 
 -- each promise against a new make, which is of no earlier life
 make_outlived : (team : Team) (past : List Step) (s : Step) (here : Here) (x y : State) → Stepping team past s here → (c : Makes here x y) → AllByRecursion (λ (v : Promised). IsNamed (s ∷ past) (promise_name v)) x.written.promises
-    → AllByRecursion (OutlivesAll team x.written.makes) x.written.promises → AllByRecursion (OutlivesAll team (make_item (member_of x.process.identity) here.life here.step c.making ∷ x.written.makes)) x.written.promises
+    → AllByRecursion (OutlivesAll team x.written.makes) x.written.promises → AllByRecursion (OutlivesAll team (make_item (member_of x.process.identity) here.life here.step x.written.makes c.making ∷ x.written.makes)) x.written.promises
 make_outlived team past s here x y at c named all =
-    each_from (OutlivesAll team (make_item (member_of x.process.identity) here.life here.step c.making ∷ x.written.makes)) x.written.promises
+    each_from (OutlivesAll team (make_item (member_of x.process.identity) here.life here.step x.written.makes c.making ∷ x.written.makes)) x.written.promises
     (λ z i. ((λ mine earlier. absurd (none z i mine earlier)), of_each (OutlivesAll team x.written.makes) x.written.promises z all i))
   where
     none : (z : Promised) → In z x.written.promises → here.step.who ≡ z.who → here.life < z.life → ⊥

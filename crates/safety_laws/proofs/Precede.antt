@@ -12,7 +12,8 @@ use Rattle.tw_machine.specs.History as items
 use Rattle.tw_machine.specs.Standing.{member_of, last_decision, report_by}
 use Rattle.tw_machine.specs.World.{world}
 use Rattle.safety_laws.specs.Effects.{Written, State, Here, Promises, Makes, Change}
-use Rattle.safety_laws.specs.Laws.{Law, Holds, Both, In}
+use Rattle.safety_laws.specs.Laws.{Law, Holds, Both}
+use Rattle.tw_types.specs.Items.{In}
 use Rattle.safety_laws.specs.Made.{IsNotOlder}
 use Rattle.safety_laws.specs.Memory.{IsAtLeast}
 use Rattle.safety_laws.specs.Names.{make_name, IsOfLife, Present, Earlier}
@@ -76,8 +77,8 @@ module _ (team : Team) (past : List Step) (s : Step) (here : Here) (x y : State)
           go (Blank followed) is = absurd (let no : true ≡ false = sym kind ∙ by_kind (Blank followed) is in cc)
 
   -- each promise against a new make, above whose group its process promised nothing
-  made_preceded : (c : Makes here x y) → AllByRecursion (PrecedeIt team x.written.makes) x.written.promises → AllByRecursion (PrecedeIt team (make_item (member_of x.process.identity) here.life here.step c.making ∷ x.written.makes)) x.written.promises
-  made_preceded c all = each_from (PrecedeIt team (make_item (member_of x.process.identity) here.life here.step c.making ∷ x.written.makes)) x.written.promises
+  made_preceded : (c : Makes here x y) → AllByRecursion (PrecedeIt team x.written.makes) x.written.promises → AllByRecursion (PrecedeIt team (make_item (member_of x.process.identity) here.life here.step x.written.makes c.making ∷ x.written.makes)) x.written.promises
+  made_preceded c all = each_from (PrecedeIt team (make_item (member_of x.process.identity) here.life here.step x.written.makes c.making ∷ x.written.makes)) x.written.promises
       (λ z i. ((λ by low. absurd (none z i (sym by ∙ me) low)), of_each (PrecedeIt team x.written.makes) x.written.promises z all i))
     where
       none : (z : Promised) → In z x.written.promises → z.who ≡ s.who → c.making.decision.group < z.promise.number → ⊥

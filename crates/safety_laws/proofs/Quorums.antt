@@ -14,7 +14,7 @@ use Rattle.tw_types.specs.Reports.{is_by_informed}
 use Rattle.tw_machine.specs.History.{Promised, Make}
 use Rattle.tw_machine.proofs.Tables.{all_mapped}
 use Rattle.safety_laws.specs.Effects.{Written}
-use Rattle.safety_laws.specs.Laws.{In}
+use Rattle.tw_types.specs.Items.{In}
 use Rattle.safety_laws.specs.Made.{made, IsNotOlder, WasReported, AllArise}
 use Rattle.safety_laws.specs.Names.{make_name, IsNamed, AreNamed, names}
 use Rattle.safety_laws.specs.Precede.{Precedes, PrecedeIt, precede}

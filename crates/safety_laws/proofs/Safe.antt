@@ -14,7 +14,7 @@ use Rattle.tw_machine.specs.SafeRows.{majority, life_of, AtLeast, IsOfStarted, O
 use Rattle.tw_machine.specs.Started.{members_of, started_at}
 use Rattle.tw_machine.specs.World.{Admissible}
 use Rattle.safety_laws.specs.Effects.{written}
-use Rattle.safety_laws.specs.Laws.{In}
+use Rattle.tw_types.specs.Items.{In}
 use Rattle.safety_laws.specs.Made.{members}
 use Rattle.safety_laws.specs.Names.{IsNamedUp}
 use Rattle.safety_laws.specs.Groups.{OfGroups}

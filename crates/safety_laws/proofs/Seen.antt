@@ -4,6 +4,7 @@ use Rattle.std.proofs.lemmas.Option.{same_Some}
 use Rattle.std.specs.List.{AllByRecursion}
 use Rattle.std.specs.Option.{option_map}
 use Rattle.tw_types.specs.declared.message.Decision.{Decision}
+use Rattle.tw_types.specs.declared.row.RowAnswer.{RowAnswer}
 use Rattle.tw_types.specs.declared.step.Step.{Step}
 use Rattle.tw_types.specs.declared.team.Team.{Team}
 use Rattle.tw_types.specs.Beliefs.{Belief, Informed, Blank, last_of}
@@ -16,19 +17,20 @@ use Rattle.tw_types.specs.Team.{IsSound}
 use Rattle.tw_types.specs.Votes.{Vote}
 use Rattle.tw_machine.specs.Dispatches.{Dispatch}
 use Rattle.tw_machine.specs.Event.{Event}
-use Rattle.tw_machine.specs.History.{Promised, Make, Up, life, make_item, makes_on, makes_by, up_at, up_on, up_by, history}
+use Rattle.tw_machine.specs.History.{Promised, Make, SentUpdate, Up, life, make_item, makes_on, makes_by, send_item, sends_on, sends_by, up_at, up_on, up_by, history}
 use Rattle.tw_machine.specs.Places.{Each, Exists}
 use Rattle.tw_machine.specs.Rows.{row_by, row_of, rows_of}
 use Rattle.tw_machine.specs.Standing.{member_of, last_decision}
 use Rattle.tw_machine.specs.Step.{moment_of, step, view_of}
 use Rattle.tw_machine.specs.World.{Deed, happen, deed_in, world, Admissible}
 use Rattle.tw_machine.proofs.Steps.{viewed_after}
-use Rattle.safety_laws.specs.Laws.{In}
+use Rattle.tw_types.specs.Items.{In}
 use Rattle.safety_laws.specs.Mail.{TellsGiven}
-use Rattle.safety_laws.specs.Seen.{IsMadeLineOf, IsFlagOf, IsKeptPromise}
+use Rattle.safety_laws.specs.Seen.{IsMadeLineOf, IsSentLineOf, IsFlagOf, IsKeptPromise}
 use Rattle.safety_laws.proofs.Induction.{earlier, Turn, turn}
 use Rattle.safety_laws.proofs.MadeTold.{AgreesOnMade, step_agrees}
 use Rattle.safety_laws.proofs.Promises.{promised_well}
+use Rattle.safety_laws.proofs.SendsTold.{AgreesOnSent, step_agrees_on_sent}
 
 -- ---- rows and the items that they show
 
@@ -95,7 +97,7 @@ event_adds : (team : Team) (number already life : ℕ) (s : Step) (before : Opti
 event_adds team number already life s before older e p (AgreesOnMade.Nothing line told) =
     Nothing (λ speaks. speaks (ap (option_map made_printed) line)) (ap (λ ms. makes_on (member_of (step team s.h e p).process.identity) life s ms older) told)
 event_adds team number already life s before older e p (AgreesOnMade.One making line told reading) =
-    One (make_item (member_of (step team s.h e p).process.identity) life s making)
+    One (make_item (member_of (step team s.h e p).process.identity) life s older making)
     (record { who = refl; incarnation = refl; reading = viewed_after team s.h e p ∙ reading; line = ap (option_map made_printed) line })
     (ap (λ ms. makes_on (member_of (step team s.h e p).process.identity) life s ms older) told)
 
@@ -111,6 +113,40 @@ makes_seen team [] ok = record { each_row = λ i r e. absurd (cc); each_item = �
 makes_seen team (s ∷ past) ok =
     seen_on HasLine IsMadeLineOf (rows_of team past) (row_of team past s) (history team past).makes (history team (s ∷ past)).makes (makes_seen team past (earlier team past s ok))
     (deed_adds team past _ _ (life s.who (s ∷ past)) s ((world team past).process_of s.who) (history team past).makes (deed_in team (world team past) s) (turn team past s ok))
+
+-- ---- what was sent
+
+-- the row answers a send with a number
+abbrev SaysSent : Row → Type 0
+SaysSent r = (seq : ℕ) × (r.answer ≡ RowAnswer.Sent seq)
+
+-- the row after a deed, and the sends after it
+abbrev AddsSend : Team → ℕ → ℕ → ℕ → Step → Option Process → List SentUpdate → Deed → Type 0
+AddsSend team number already life s before older d = Adds SaysSent IsSentLineOf (row_by team number already s before d) older (sends_by life s d.process d.sendings older)
+
+-- of an event
+event_adds_send : (team : Team) (number already life : ℕ) (s : Step) (before : Option Process) (older : List SentUpdate) (e : Event) (p : Process)
+    → AgreesOnSent (moment_of team s.h e p).reading (step team s.h e p).answer (step team s.h e p).sendings → AddsSend team number already life s before older (happen team s.h e p)
+event_adds_send team number already life s before older e p (AgreesOnSent.Nothing silent noted) =
+    Nothing (λ speaks. silent speaks.0 speaks.1) (ap (λ ms. sends_on (member_of (step team s.h e p).process.identity) life s ms older) noted)
+event_adds_send team number already life s before older e p (AgreesOnSent.One sending answer noted stamped) =
+    One (send_item (member_of (step team s.h e p).process.identity) life s sending)
+    (record { who = refl; incarnation = refl; reading = viewed_after team s.h e p ∙ stamped; answer = answer })
+    (ap (λ ms. sends_on (member_of (step team s.h e p).process.identity) life s ms older) noted)
+
+deed_adds_send : (team : Team) (past : List Step) (number already life : ℕ) (s : Step) (before : Option Process) (older : List SentUpdate) (d : Deed) → Turn team past s d
+    → AddsSend team number already life s before older d
+deed_adds_send team past number already life s before older d (Turn.Starts mode act comes) = subst (AddsSend team number already life s before older) (sym comes) (Nothing (λ speaks. absurd (let e = speaks.1 in cc)) refl)
+deed_adds_send team past number already life s before older d (Turn.Stops act comes) = subst (AddsSend team number already life s before older) (sym comes) (Nothing (λ speaks. absurd (let e = speaks.1 in cc)) refl)
+deed_adds_send team past number already life s before older d (Turn.Looks p runs act comes) = subst (AddsSend team number already life s before older) (sym comes) (Nothing (λ speaks. absurd (let e = speaks.1 in cc)) refl)
+deed_adds_send team past number already life s before older d (Turn.Happens e p runs brings comes) =
+    subst (AddsSend team number already life s before older) (sym comes) (event_adds_send team number already life s before older e p (step_agrees_on_sent team s.h e p))
+
+sends_seen : (team : Team) (past : List Step) → Admissible team past → AreSeen SaysSent IsSentLineOf (rows_of team past) (history team past).sends
+sends_seen team [] ok = record { each_row = λ i r e. absurd (cc); each_item = λ k i. absurd i }
+sends_seen team (s ∷ past) ok =
+    seen_on SaysSent IsSentLineOf (rows_of team past) (row_of team past s) (history team past).sends (history team (s ∷ past)).sends (sends_seen team past (earlier team past s ok))
+    (deed_adds_send team past _ _ (life s.who (s ∷ past)) s ((world team past).process_of s.who) (history team past).sends (deed_in team (world team past) s) (turn team past s ok))
 
 -- ---- who was up
 
@@ -164,6 +200,13 @@ made_lines_seen team past ok = (makes_seen team past ok).each_row
 
 pub makes_printed : (team : Team) (past : List Step) → Admissible team past → (k : Make) → In k (history team past).makes → Exists (rows_of team past) (λ i r. IsMadeLineOf r k)
 makes_printed team past ok = (makes_seen team past ok).each_item
+
+pub sent_lines_seen : (team : Team) (past : List Step) → Admissible team past
+    → Each (rows_of team past) (λ i r. (seq : ℕ) → r.answer ≡ RowAnswer.Sent seq → (z : SentUpdate) × In z (history team past).sends × IsSentLineOf r z)
+sent_lines_seen team past ok = λ i r at seq e. (sends_seen team past ok).each_row i r at (seq, e)
+
+pub sends_answered : (team : Team) (past : List Step) → Admissible team past → (z : SentUpdate) → In z (history team past).sends → Exists (rows_of team past) (λ i r. IsSentLineOf r z)
+sends_answered team past ok = (sends_seen team past ok).each_item
 
 pub flags_seen : (team : Team) (past : List Step) → Each (rows_of team past) (λ i r. r.up ≡ true → (k : Up) × In k (history team past).ups × IsFlagOf r k)
 flags_seen team past = (ups_seen team past).each_row

@@ -29,16 +29,18 @@ use Rattle.tw_machine.proofs.Clocks.{reading_again}
 use Rattle.tw_machine.proofs.Steps.{viewed_after}
 use Rattle.tw_machine.proofs.Tables.{equal_numbers, same_number, other_number}
 use Rattle.safety_laws.specs.Effects.{Written, State, Here, written, written_after, state_of, flagged, Change, Changes}
-use Rattle.safety_laws.specs.Laws.{Law, Holds, no_law, Both, In}
+use Rattle.safety_laws.specs.Laws.{Law, Holds, no_law, Both}
+use Rattle.tw_types.specs.Items.{In}
 use Rattle.safety_laws.proofs.Induction.{Receives, earlier, start_by, Brings, Turn, turn}
 use Rattle.safety_laws.proofs.ClockLaw.{timed, hears, may_read_now}
 use Rattle.safety_laws.proofs.Timings.{ClockInvariant, clock_near, timed_still}
+use Rattle.safety_laws.proofs.Lists.{in_first}
 use Rattle.safety_laws.proofs.Effects.{IsRead, join}
 use Rattle.safety_laws.proofs.Events.{mail_of, mail_is, event_row, look_row, read_is_greatest}
 
 -- nothing was written down before the first step
 abbrev pub nothing_written : Written
-nothing_written = record { promises = []; makes = []; ups = []; sent = [] }
+nothing_written = record { promises = []; makes = []; sends = []; ups = []; sent = [] }
 
 -- what is known of a step beside its effects: its process, its life, its clock, and that it received what was sent to it
 pub record Stepping (team : Team) (past : List Step) (s : Step) (here : Here) : Type 0 where
@@ -103,13 +105,8 @@ stack team earlier law first next = record {
 -- ---- inside a step
 
 -- what is received stays among what was sent
-in_more : {X : Type 0} (x : X) (xs ys : List X) → In x xs → In x (xs ++ ys)
-in_more x [] ys i = absurd i
-in_more x (z ∷ xs) ys (inl e) = inl e
-in_more x (z ∷ xs) ys (inr i) = inr (in_more x xs ys i)
-
 sent_stays : (here : Here) (x y : State) → Change here x y → (k : Dispatch) → In k x.written.sent → In k y.written.sent
-sent_stays here x y (Change.Keep c) k i = subst (In k) (sym c.sent) (in_more k x.written.sent (map (sent_at here.step.t) c.new) i)
+sent_stays here x y (Change.Keep c) k i = subst (In k) (sym c.sent) (in_first k x.written.sent (map (sent_at here.step.t) c.new) i)
 sent_stays here x y (Change.Give c) k i = rw c.written i
 sent_stays here x y (Change.Hold c) k i = rw c.written i
 sent_stays here x y (Change.Take c) k i = rw c.written i
@@ -303,7 +300,7 @@ module _ (team : Team) (law : Law) (rules : LawRules team law) (past : List Step
       mailed d is =
           let k = mail_is team s.h e p d is in
           let got : Receives team past s d = subst (Brings team past s) k.packet brings in
-          (got.dispatch, in_more got.dispatch (written team past).sent [] (in_number (written team past).sent got.receipt.number got.dispatch got.receipt.sent), sym got.is, got.to, k.from)
+          (got.dispatch, in_first got.dispatch (written team past).sent [] (in_number (written team past).sent got.receipt.number got.dispatch got.receipt.sent), sym got.is, got.to, k.from)
 
   after_turn : Turn team past s (deed_in team (world team past) s) → After team law past s (written team (s ∷ past)) (deed_in team (world team past) s).process
   after_turn (Turn.Starts mode act comes) = subst (λ o. After team law past s (written team (s ∷ past)) o) (ap (λ (d : Deed). d.process) (sym comes)) (begun mode act comes)

@@ -13,7 +13,8 @@ use Rattle.tw_machine.specs.History.{Promised, life, promise_item}
 use Rattle.tw_machine.specs.Standing.{member_of}
 use Rattle.tw_machine.specs.World.{world, Admissible}
 use Rattle.safety_laws.specs.Effects.{Written, State, Here, Change}
-use Rattle.safety_laws.specs.Laws.{Holds, In}
+use Rattle.safety_laws.specs.Laws.{Holds}
+use Rattle.tw_types.specs.Items.{In}
 use Rattle.safety_laws.specs.Names.{promise_name, IsNamed, IsOfLife, Present, Earlier, IsOwn, AreNamed}
 use Rattle.safety_laws.specs.Promises.{OfPromises, OfPromiser, of_promises}
 use Rattle.safety_laws.specs.Still.{SaysTheSame, StandsStill, still}
@@ -82,7 +83,7 @@ changes team past s here x y at change before k = go change
     same_lists eq own = record { history = tt; own = rw eq own; others = λ q p other runs. rw eq (k.others q p other runs) }
 
     go : Change here x y → Holds still (s ∷ past) (world team past) s.who y
-    go (Change.Keep c) = same_lists c.promises (same_record x.written x.process y.process c.identity c.belief c.length k.own)
+    go (Change.Keep c) = same_lists c.promises (same_record x.written x.process y.process c.identity c.belief (ap log_length c.log) k.own)
     go (Change.Hold c) = same_lists (ap (λ (w : Written). w.promises) c.written) (same_record x.written x.process y.process (ap (λ (p : Process). p.identity) c.process) (ap (λ (p : Process). p.belief) c.process) (ap (λ (p : Process). log_length p.log) c.process) k.own)
     go (Change.Raise c) = same_lists (ap (λ (w : Written). w.promises) c.written) (same_record x.written x.process y.process (ap (λ (p : Process). p.identity) c.process) (ap (λ (p : Process). p.belief) c.process) (ap (λ (p : Process). log_length p.log) c.process) k.own)
     go (Change.Take c) =

@@ -12,7 +12,7 @@ use Rattle.tw_types.specs.Decisions.{decision_length}
 use Rattle.tw_types.specs.Appending.{raised}
 use Rattle.tw_types.specs.Turns.{supported}
 use Rattle.tw_machine.specs.History.{Promised, Make}
-use Rattle.safety_laws.specs.Laws.{In}
+use Rattle.tw_types.specs.Items.{In}
 use Rattle.safety_laws.specs.Made.{Follows, ComesFrom, Arises, AsFirst, AsNext, AllArise}
 use Rattle.safety_laws.specs.Supports.{IsMakeOf, IsSupported, AllSupported}
 use Rattle.safety_laws.proofs.Lists.{of_each, each_weaker, each_from}

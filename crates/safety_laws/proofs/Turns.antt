@@ -12,7 +12,7 @@ use Rattle.tw_types.specs.Appending.{raised}
 use Rattle.tw_types.specs.Turns.{supported}
 use Rattle.tw_machine.specs.History.{Promised, Make}
 use Rattle.tw_machine.proofs.Tables.{all_mapped}
-use Rattle.safety_laws.specs.Laws.{In}
+use Rattle.tw_types.specs.Items.{In}
 use Rattle.safety_laws.specs.Made.{WasMade, WasReported, Follows, ComesFrom, Arises, AsFirst, AsNext, AllArise, IsBeginOf, members}
 use Rattle.safety_laws.specs.Once.{SamePair, AllOnce}
 use Rattle.safety_laws.proofs.Lists.{of_each, each_weaker}

@@ -129,17 +129,17 @@ stored_since : (k : Kept) (r : Run) → IsLow r.process → Since r.process (upd
 stored_since k r low = record { last = λ d is. inl is; promised = omega arith; ballot = low.ballot }
 
 update_since : (now : Moment) (k : Kept) (r : Run) → IsLow r.process → Since r.process (take_update now k r).run.process
-update_since now k r low = by_putting now (received_as r.process k) k r (λ z. Since r.process z.run.process) (filled_since now k r low) (stored_since k r low) (λ reason other. same r.process low)
+update_since now k r low = by_putting now (received_as r.process k) k r (λ z. Since r.process z.run.process) (λ e. filled_since now k r low) (λ e. stored_since k r low) (λ reason other. same r.process low)
 
 question_since : (now : Moment) (from : ℕ) (want : Want) (r : Run) → IsLow r.process → Since r.process (answer_ask now from want r).run.process
-question_since now from want r low = by_answering now from want r (λ z. Since r.process z.run.process) (λ k. same r.process low) (same r.process low)
+question_since now from want r low = by_answering now from want r (λ z. Since r.process z.run.process) (λ id k e. same r.process low) (same r.process low)
 
 put_since : (now : Moment) (p : Putting) (k : Kept) (r : Run) → IsLow r.process → Since r.process (update_put now p k r).process
-put_since now p k r low = by_kept now p k r (λ z. Since r.process z.process) (same r.process low) (stored_since k r low) (filled_since now k r low)
+put_since now p k r low = by_kept now p k r (λ z. Since r.process z.process) (same r.process low) (λ e. stored_since k r low) (λ e. filled_since now k r low)
 
 sent_since : (team : Team) (now : Moment) (k : Kept) (r : Run) → IsLow r.process → Since r.process (update_sent team now k r).process
 sent_since team now k r low =
-    let z = put_since now (putting (view_decision r.process.belief) k r.process.waiting) k (seq_given k.entry.id.seq r) (record { last = low.last; ballot = low.ballot; held = low.held }) in
+    let z = put_since now (putting (view_decision r.process.belief) k r.process.waiting) k (seq_given k r) (record { last = low.last; ballot = low.ballot; held = low.held }) in
     record { last = z.last; promised = z.promised; ballot = z.ballot }
 
 propose_since : (team : Team) (now : Moment) (order : Order) (atom : Atom) (payload : List ℕ) (r : Run) → IsLow r.process → Since r.process (propose team now order atom payload r).run.process

@@ -51,7 +51,7 @@ changes team past s here x y at change maker all = go (grown here x y change)
     go : Grown here x y → AllByRecursion (WasUp team y.written.makes) y.written.ups
     go (Quiet promises makes ups) = rw ups (subst (λ ms. AllByRecursion (WasUp team ms) x.written.ups) (sym makes) all)
     go (NewPromise c promises makes ups) = rw ups (subst (λ ms. AllByRecursion (WasUp team ms) x.written.ups) (sym makes) all)
-    go (NewMake c promises makes ups) = rw ups (each_weaker (WasUp team x.written.makes) (WasUp team y.written.makes) x.written.ups (λ u. still_up team x.written.makes y.written.makes u (more_by x.written.makes y.written.makes (make_item (member_of x.process.identity) here.life here.step c.making) makes)) all)
+    go (NewMake c promises makes ups) = rw ups (each_weaker (WasUp team x.written.makes) (WasUp team y.written.makes) x.written.ups (λ u. still_up team x.written.makes y.written.makes u (more_by x.written.makes y.written.makes (make_item (member_of x.process.identity) here.life here.step x.written.makes c.making) makes)) all)
     go (NewUp c promises makes ups) = rw ups (subst (λ ms. AllByRecursion (WasUp team ms) (up_at here.life here.step x.process c.t c.last ∷ x.written.ups)) (sym makes) (raised team past s here x y at maker c, all))
 
 pub ups_rules : (team : Team) → RulesOver team (made team) (ups team)

@@ -1,6 +1,6 @@
 -- What a part of a step may do to its process and to what was written down of the schedule. The laws on groups are proved of these
 -- effects alone; each part of a step is a row of them. An effect says what the rule says, and not who happens to reach it.
-use Rattle.std.specs.Prelude.{ℕ, ◌≤◌, ◌<◌, ◌≡◌, true, false, List, ◌∷◌, ◌++◌, map, Option, Some, None, Ok}
+use Rattle.std.specs.Prelude.{ℕ, ◌+◌, ◌≤◌, ◌<◌, ◌≡◌, true, false, List, ◌∷◌, ◌++◌, map, Option, Some, None, Ok}
 use Rattle.std.specs.List.{AllByRecursion}
 use Rattle.std.specs.Option.{option_map}
 use Rattle.tw_num.specs.declared.moment.Moment.{Moment}
@@ -10,6 +10,10 @@ use Rattle.tw_types.specs.declared.datagram.Head.{Head}
 use Rattle.tw_types.specs.declared.datagram.Body.{Body}
 use Rattle.tw_types.specs.declared.datagram.Body.TheVariants as bodies
 use Rattle.tw_types.specs.declared.datagram.Datagram.{Datagram}
+use Rattle.tw_types.specs.declared.message.Order.{Order}
+use Rattle.tw_types.specs.declared.message.Atom.{Atom}
+use Rattle.tw_types.specs.declared.message.Kept.{Kept}
+use Rattle.tw_types.specs.declared.message.Seat.{Seat}
 use Rattle.tw_types.specs.declared.message.Decision.{Decision}
 use Rattle.tw_types.specs.declared.step.Step.{Step}
 use Rattle.tw_types.specs.Votes.{Promise, Making}
@@ -17,28 +21,33 @@ use Rattle.tw_types.specs.Beliefs.{is_informed, view_decision, log_length}
 use Rattle.tw_types.specs.Ballots.{begun, joined, wants, is_complete}
 use Rattle.tw_types.specs.Decisions.{or_none, is_older, has_seat}
 use Rattle.tw_types.specs.Flag.{is_up}
-use Rattle.tw_types.specs.Groups.{group_made, group_making, next_making}
+use Rattle.tw_types.specs.Groups.{group_made, group_making}
 use Rattle.tw_types.specs.Promises.{is_quarantined, is_in_window}
 use Rattle.tw_types.specs.Slots.{owner}
-use Rattle.tw_types.specs.Turns.{is_turn, next_decision}
+use Rattle.tw_types.specs.Turns.{is_turn}
 use Rattle.tw_types.specs.Refusals.{first_refusal}
-use Rattle.tw_types.specs.Waiting.{Held, payloads_of}
+use Rattle.tw_types.specs.Waiting.{Held, payloads_of, Filled, Stored, putting, put_as, released, holding}
+use Rattle.tw_types.specs.Sends.{Sending, update_of, as_sent}
+use Rattle.tw_types.specs.Updates.{pending_room}
 use Rattle.tw_types.specs.Logs.{list_tests, first_missing}
 use Rattle.tw_types.specs.Process.{Process, ToTake, ToGroup}
 use Rattle.tw_types.specs.Process as records
 use Rattle.tw_machine.specs.Dispatches.{Dispatch, sent_at}
-use Rattle.tw_machine.specs.History.{Promised, Up, promise_item, make_item, up_at, promises_on, makes_on, makes_by, up_by, history}
+use Rattle.tw_machine.specs.History.{Promised, SentUpdate, Up, promise_item, make_item, send_item, up_at, promises_on, makes_on, sends_on, makes_by, sends_by, up_by, history}
 use Rattle.tw_machine.specs.History as items
 use Rattle.tw_machine.specs.Run.{Run}
 use Rattle.tw_machine.specs.World.{Deed, world}
 use Rattle.tw_machine.specs.Standing.{member_of, last_decision, report_by}
 use Rattle.tw_machine.specs.Entering.{entered}
-use Rattle.tw_machine.specs.Deciding.{supporting, entries_to_add}
+use Rattle.tw_machine.specs.Deciding.{supporting, next_made}
+use Rattle.tw_machine.specs.Proposing.{own_seat, own_seq}
+use Rattle.tw_types.specs.Items.{In}
 
 -- what was written down of a schedule: its history, the newest item first, and what was sent, in its order
 pub record Written : Type 0 where
   pub promises : List Promised
   pub makes : List items.Make
+  pub sends : List SentUpdate
   pub ups : List Up
   pub sent : List Dispatch
 
@@ -47,6 +56,7 @@ abbrev pub written : Team → List Step → Written
 written team past = record {
   promises = (history team past).promises;
   makes = (history team past).makes;
+  sends = (history team past).sends;
   ups = (history team past).ups;
   sent = (world team past).sent;
 }
@@ -71,6 +81,7 @@ state_of here before r = record {
   written = record {
     promises = promises_on here.life here.step r.promises before.promises;
     makes = makes_on (member_of r.process.identity) here.life here.step r.makings before.makes;
+    sends = sends_on (member_of r.process.identity) here.life here.step r.sendings before.sends;
     ups = before.ups;
     sent = before.sent ++ map (sent_at here.step.t) r.out.sends;
   };
@@ -81,6 +92,7 @@ abbrev pub written_after : Team → ℕ → Step → Deed → Written → Writte
 written_after team life s d before = record {
   promises = promises_on life s d.promises before.promises;
   makes = makes_by life s d.process d.makings before.makes;
+  sends = sends_by life s d.process d.sendings before.sends;
   ups = up_by team life s d.process before.ups;
   sent = before.sent ++ map (sent_at s.t) d.out.sends;
 }
@@ -98,12 +110,28 @@ NotBelow None after = Unit {0}
 NotBelow (Some before) None = ⊥
 NotBelow (Some before) (Some after) = before ≤ after
 
--- a datagram's body says what its sender has: its newest promise, or its last decision; the others say nothing of promises and decisions
+-- ---- updates
+
+-- an update was sent, by its member, for the first time
+abbrev pub WasSent : List SentUpdate → Kept → Type 0
+WasSent sends k = (z : SentUpdate) × In z sends × (z.sending.update ≡ k)
+
+-- whence a process has an update: it comes, or the process sends it
+pub data Origin (here : Here) (x : State) (k : Kept) : Type 0 where
+  ByMail : (head : Head) → here.mail ≡ Some (record { head = head; body = bodies.Update k }) → Origin here x k
+  ByItself : WasSent x.written.sends k → Origin here x k
+
+-- what a process tells as an update: one that is in its list or waits, as it was sent, or its own
+pub data TellsUpdate (p : Process) (sends : List SentUpdate) (k : Kept) : Type 0 where
+  Again : (had : Kept) → In had (p.log.entries ++ payloads_of p.waiting) → k ≡ as_sent had → TellsUpdate p sends k
+  First : WasSent sends k → TellsUpdate p sends k
+
+-- A datagram's body says what its sender has: its newest promise, its last decision, or an update; the others say nothing of these.
 abbrev pub Says : Here → State → Body → Type 0
 Says here x (bodies.Promise number report decision) =
     (older : List Promised) × (x.written.promises ≡ promise_item here.life here.step (record { number = number; report = report; decision = decision }) ∷ older)
 Says here x (bodies.Decision d) = last_decision x.process ≡ Some d
-Says here x (bodies.Update kept) = Unit {0}
+Says here x (bodies.Update k) = TellsUpdate x.process x.written.sends k
 Says here x (bodies.NoDecision number group turn skip reports best) = ⊥
 Says here x (bodies.Election number why) = Unit {0}
 Says here x (bodies.Ask want) = Unit {0}
@@ -134,26 +162,56 @@ pub data Source (here : Here) (x : State) (d : Decision) : Type 0 where
   Comes : (head : Head) → here.mail ≡ Some (record { head = head; body = bodies.Decision d }) → MayTake x.process d → Source here x d
   WasHeld : (hold : records.Hold) → held_decision x.process ≡ Some d → x.process.hold ≡ Some hold → hold.purpose ≡ ToTake → hold.promised ≡ x.process.vote.promised → Source here x d
 
--- What becomes of a held decision: it stays, or goes, or another one is held, for this or that.
-pub data Holding (here : Here) (x y : State) : Type 0 where
-  Stays : held_decision y.process ≡ held_decision x.process → y.process.hold ≡ x.process.hold → Holding here x y
-  Goes : held_decision y.process ≡ None → Holding here x y
-  ForTaking : (d : Decision) → Source here x d → held_decision y.process ≡ Some d → y.process.hold ≡ Some (record { purpose = ToTake; promised = x.process.vote.promised }) → Holding here x y
-  ForGroup : (ballot : Ballot) → (best : Decision) → x.process.ballot ≡ Some ballot → ballot.best ≡ Some best
-      → held_decision y.process ≡ Some best → y.process.hold ≡ Some (record { purpose = ToGroup; promised = x.process.vote.promised }) → Holding here x y
+-- What becomes of what waits: nothing; an update becomes pending, or is kept with the held decision; that one goes, or another one is held,
+-- for this or that.
+pub data Waits (here : Here) (x y : State) : Type 0 where
+  Stays : y.process.waiting ≡ x.process.waiting → y.process.hold ≡ x.process.hold → Waits here x y
+  Puts : (k : Kept) → Origin here x k → putting (view_decision x.process.belief) k x.process.waiting ≡ Stored → y.process.waiting ≡ put_as Stored k x.process.waiting → y.process.hold ≡ x.process.hold → Waits here x y
+  Fills : (k : Kept) → Origin here x k → putting (view_decision x.process.belief) k x.process.waiting ≡ Filled → y.process.waiting ≡ put_as Filled k x.process.waiting → y.process.hold ≡ x.process.hold → Waits here x y
+  Goes : y.process.waiting ≡ released x.process.waiting → y.process.hold ≡ None → Waits here x y
+  ForTaking : (d : Decision) → (source : ℕ) → Source here x d → y.process.waiting ≡ holding d (log_length x.process.log) source x.process.waiting
+      → y.process.hold ≡ Some (record { purpose = ToTake; promised = x.process.vote.promised }) → Waits here x y
+  ForGroup : (ballot : Ballot) → (best : Decision) → (source : ℕ) → x.process.ballot ≡ Some ballot → ballot.best ≡ Some best → ballot.number ≡ x.process.vote.promised
+      → y.process.waiting ≡ holding best (log_length x.process.log) source x.process.waiting
+      → y.process.hold ≡ Some (record { purpose = ToGroup; promised = x.process.vote.promised }) → Waits here x y
 
--- Nothing of a vote, a ballot or a belief changes, nor where the list begins and ends, and nothing is promised or made. The clock may have
--- been read, datagrams sent, and what waits at the process may be another: then a held decision is one that was received or held before, or
--- the ballot's best.
+-- ---- own sends
+
+-- A process that is up, and has a seat in its last decision, sends an update of its own: its next number, or the one that its seat awaits
+-- where that is greater, and fewer than eight ahead of that.
+pub record Proposes (here : Here) (x : State) (sending : Sending) : Type 0 where
+  pub t : ℕ
+  pub reading : here.now.reading ≡ Some t
+  pub read : x.process.timing.clock.greatest ≡ Some t
+  pub up : is_up here.team x.process.vote x.process.belief (Some t) ≡ true
+  pub last : Decision
+  pub last_is : last_decision x.process ≡ Some last
+  pub seat : Seat
+  pub seat_is : own_seat x.process ≡ Some seat
+  pub near : own_seq x.process < seat.next + pending_room
+  pub order : Order
+  pub atom : Atom
+  pub payload : List ℕ
+  pub group : sending.group ≡ last.group
+  pub update : sending.update ≡ update_of (member_of x.process.identity) (own_seq x.process) t order atom payload
+
+-- no update is sent for the first time, or one is, and its number is given
+pub data Numbers (here : Here) (x y : State) : Type 0 where
+  SendsNone : y.process.next_seq ≡ x.process.next_seq → y.written.sends ≡ x.written.sends → Numbers here x y
+  SendsOne : (sending : Sending) → Proposes here x sending → y.process.next_seq ≡ sending.update.entry.id.seq + 1
+      → y.written.sends ≡ send_item (member_of x.process.identity) here.life here.step sending ∷ x.written.sends → Numbers here x y
+
+-- Nothing of a vote, a ballot, a belief or a list changes, and nothing is promised or made. The clock may have been read, datagrams and an
+-- update of its own sent, and what waits at the process may be another.
 pub record Keeps (here : Here) (x y : State) : Type 0 where
   pub identity : y.process.identity ≡ x.process.identity
   pub vote : y.process.vote ≡ x.process.vote
   pub ballot : y.process.ballot ≡ x.process.ballot
   pub belief : y.process.belief ≡ x.process.belief
-  pub base : y.process.log.base ≡ x.process.log.base
-  pub length : log_length y.process.log ≡ log_length x.process.log
+  pub log : y.process.log ≡ x.process.log
   pub greatest : NotBelow x.process.timing.clock.greatest y.process.timing.clock.greatest
-  pub held : Holding here x y
+  pub waits : Waits here x y
+  pub numbers : Numbers here x y
   pub promises : y.written.promises ≡ x.written.promises
   pub makes : y.written.makes ≡ x.written.makes
   pub ups : y.written.ups ≡ x.written.ups
@@ -204,7 +262,7 @@ pub record Takes (here : Here) (x y : State) : Type 0 where
 -- takes away
 pub data MakeReason (here : Here) (making : Making) (t : ℕ) (x y : State) : Type 0 where
   Next : (last : Decision) → last_decision x.process ≡ Some last → is_turn here.team (member_of x.process.identity) (Some last) x.process.vote.promised t ≡ true
-      → making ≡ next_making last (next_decision (entries_to_add here.team t last x.process) last t x.process.identity.who) → y.process.ballot ≡ x.process.ballot → MakeReason here making t x y
+      → making ≡ next_made here.team t last x.process → y.process.ballot ≡ x.process.ballot → MakeReason here making t x y
   Group : (ballot : Ballot) → x.process.ballot ≡ Some ballot → is_complete here.team t ballot ≡ true
       → group_made here.team ballot x.process.log (payloads_of x.process.waiting) (member_of x.process.identity) t ≡ Ok making.decision → making ≡ group_making ballot making.decision
       → y.process.ballot ≡ None → MakeReason here making t x y
@@ -219,7 +277,7 @@ pub record Makes (here : Here) (x y : State) : Type 0 where
   pub group : making.decision.group ≡ x.process.vote.promised
   pub reason : MakeReason here making t x y
   pub process : y.process ≡ record (entered making.decision (supporting t x.process)) { ballot = y.process.ballot }
-  pub written : y.written ≡ record (x.written) { makes = make_item (member_of x.process.identity) here.life here.step making ∷ x.written.makes }
+  pub written : y.written ≡ record (x.written) { makes = make_item (member_of x.process.identity) here.life here.step x.written.makes making ∷ x.written.makes }
 
 -- A process is up at its reading, after its step.
 pub record Raises (here : Here) (x y : State) : Type 0 where

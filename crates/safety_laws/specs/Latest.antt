@@ -5,7 +5,8 @@ use Rattle.tw_types.specs.declared.step.Step.{Step}
 use Rattle.tw_types.specs.Process.{Process}
 use Rattle.tw_machine.specs.History.{Promised, life}
 use Rattle.safety_laws.specs.Effects.{Written}
-use Rattle.safety_laws.specs.Laws.{Law, In}
+use Rattle.safety_laws.specs.Laws.{Law}
+use Rattle.tw_types.specs.Items.{In}
 
 -- No number that it promised in this life is greater, and it promised this one in this life, if any.
 pub record IsLatest (steps : List Step) (w : Written) (who : ℕ) (p : Process) : Type 0 where

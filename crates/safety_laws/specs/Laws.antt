@@ -1,5 +1,5 @@
 -- What a law on groups is, and what it says in the middle of a step.
-use Rattle.std.specs.Prelude.{ℕ, ◌≡◌, ◌≢◌, ◌⊎◌, List, [], ◌∷◌, Some}
+use Rattle.std.specs.Prelude.{ℕ, ◌≡◌, ◌≢◌, List, Some}
 use Rattle.tw_types.specs.declared.step.Step.{Step}
 use Rattle.tw_types.specs.Process.{Process}
 use Rattle.tw_machine.specs.World.{World}
@@ -26,8 +26,3 @@ Both a b = record {
   History = λ steps w. a.History steps w × b.History steps w;
   Running = λ steps w who p. a.Running steps w who p × b.Running steps w who p;
 }
-
--- an item stands in a list
-abbrev pub In : {X : Type 0} → X → List X → Type 0
-In x [] = ⊥
-In x (y ∷ ys) = (x ≡ y) ⊎ In x ys

@@ -22,3 +22,7 @@ pub mod Ups
 pub mod Seen
 pub mod Groups
 pub mod Under
+pub mod Sends
+pub mod Supported
+pub mod Ids
+pub mod Pending

@@ -6,6 +6,7 @@ use Rattle.tw_types.specs.declared.ballot.Ballot.{Ballot}
 use Rattle.tw_types.specs.declared.datagram.Body.{Body}
 use Rattle.tw_types.specs.declared.datagram.Body.TheVariants as bodies
 use Rattle.tw_types.specs.declared.message.Entry.{Entry}
+use Rattle.tw_types.specs.declared.message.Kept.{Kept}
 use Rattle.tw_types.specs.declared.message.Decision.{Decision}
 use Rattle.tw_types.specs.declared.message.Member.{Member}
 use Rattle.tw_types.specs.declared.message.Report.{Report}
@@ -23,7 +24,8 @@ use Rattle.tw_machine.specs.History.{Promised, Make, life}
 use Rattle.tw_machine.specs.Standing.{member_of, last_decision}
 use Rattle.safety_laws.specs.Effects.{Written, held_decision}
 use Rattle.safety_laws.specs.Full.{is_full}
-use Rattle.safety_laws.specs.Laws.{Law, In}
+use Rattle.safety_laws.specs.Laws.{Law}
+use Rattle.tw_types.specs.Items.{In}
 
 -- a decision was made
 abbrev pub WasMade : List Make → Decision → Type 0
@@ -83,7 +85,8 @@ carried (bodies.Sync ready) = None
 -- ---- decisions follow each other
 
 -- A next decision follows the last one of its maker, who has the seat after that one's maker: same group, start and members, the
--- next turn, and the supports of before but the maker's own. Each seat's next number is higher by its member's entries that were added.
+-- next turn, and the supports of before but the maker's own. The list goes on with what was added, and each seat's next number is higher
+-- by its member's entries among that.
 pub record Follows (older : List Make) (m : Make) (last : Decision) : Type 0 where
   pub was_made : WasMade older last
   pub before : m.making.before ≡ Some last
@@ -94,6 +97,7 @@ pub record Follows (older : List Make) (m : Make) (last : Decision) : Type 0 whe
   pub maker : m.making.decision.maker ≡ m.who
   pub ring : (seat : Seat) × (seat_after last.maker last.seats.items ≡ Some seat) × (seat.member ≡ m.member)
   pub entries : List Entry
+  pub appended : map (λ (k : Kept). k.entry) m.making.appended ≡ entries
   pub longer : decision_length m.making.decision ≡ decision_length last + length entries
   pub seats : m.making.decision.seats.items ≡ map (supported m.who (record { ack = decision_length m.making.decision; at = m.making.decision.made })) (map (raised entries) last.seats.items)
 

@@ -6,7 +6,8 @@ use Rattle.tw_types.specs.declared.datagram.Body.TheVariants as bodies
 use Rattle.tw_types.specs.Votes.{Promise}
 use Rattle.tw_machine.specs.Dispatches.{Dispatch}
 use Rattle.tw_machine.specs.History.{Promised}
-use Rattle.safety_laws.specs.Laws.{Law, In}
+use Rattle.safety_laws.specs.Laws.{Law}
+use Rattle.tw_types.specs.Items.{In}
 
 -- a process gave this promise
 abbrev pub WasGiven : List Promised → ℕ → Promise → Type 0

@@ -5,7 +5,8 @@ use Rattle.tw_types.specs.declared.message.Seat.{Seat}
 use Rattle.tw_types.specs.declared.message.Support.{Support}
 use Rattle.tw_types.specs.Decisions.{decision_length}
 use Rattle.tw_machine.specs.History.{Make}
-use Rattle.safety_laws.specs.Laws.{Law, In}
+use Rattle.safety_laws.specs.Laws.{Law}
+use Rattle.tw_types.specs.Items.{In}
 
 -- a seat's support is that of a make of its member, of this group and this turn or an earlier one, with its reading and its length
 pub record IsMakeOf (m : Make) (seat : Seat) (support : Support) (made : Make) : Type 0 where

@@ -20,8 +20,8 @@ ghost use Rattle.tw_machine.specs.Rows.{rows_of};
 ghost use Rattle.tw_machine.specs.SafeRows.{SafeRows};
 ghost use Rattle.safety_laws.specs.Effects.{written};
 ghost use Rattle.safety_laws.specs.Groups.{HasMajority, StandsOn, BeginsAbove};
-ghost use Rattle.safety_laws.specs.Held.{HoldsWell};
-ghost use Rattle.safety_laws.specs.Laws.{In};
+ghost use Rattle.safety_laws.specs.Held.{HoldsWell, HoldsBelow};
+ghost use Rattle.tw_types.specs.Items.{In};
 ghost use Rattle.safety_laws.specs.Made.{AllArise, IsUnderPromise, KeepsMade, WasMade, WasMadeIfAny, IsBeginOf, BallotHolds, carried};
 ghost use Rattle.safety_laws.specs.Memory.{Remembers};
 ghost use Rattle.safety_laws.specs.Once.{AllOnce, IsAboveAll};
@@ -45,12 +45,15 @@ pub fn promises_ascend()
 
 /// Decisions are of the promised group: a decision that a process has after a step, and hadn't before it, is of the group that it
 /// had promised last before that step (`under`); one that it holds to be taken is of the group that it had promised when it was
-/// held, names it, and is above the last one (`held`); who made a decision had promised its group, in that life (`makes`); and no
-/// two makes are of one group and turn (`once`).
+/// held, names it, and is above the last one (`held`); one that it holds to make a group from is of a lower group than it had promised
+/// when it was held (`below`); who made a decision had promised its group, in that life (`makes`); and no two makes are of one group and
+/// turn (`once`).
 pub fn decisions_are_promised()
     ensures under { (team : Team) (past : List Step) (s : Step) → IsSound team → Admissible team (s ∷ past) → IsUnder team past s }
     ensures held { (team : Team) (past : List Step) (who : ℕ) → IsSound team → Admissible team past →
         IfSome ((world team past).process_of who) HoldsWell }
+    ensures below { (team : Team) (past : List Step) (who : ℕ) → IsSound team → Admissible team past →
+        IfSome ((world team past).process_of who) HoldsBelow }
     ensures makes { (team : Team) (past : List Step) → IsSound team → Admissible team past →
         AllByRecursion (IsUnderPromise (history team past).promises) (history team past).makes }
     ensures once { (team : Team) (past : List Step) → IsSound team → Admissible team past → AllOnce (history team past).makes }

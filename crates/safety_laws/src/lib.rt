@@ -5,6 +5,7 @@
 mod clocks;
 mod history;
 mod laws;
+mod sends;
 
 pub use clocks::{bounds_cover_every_delay, clocks_hold_team_time};
 pub use history::history_is_seen;
@@ -12,4 +13,8 @@ pub use laws::{
     decisions_are_promised, leases_outlast_older_groups, lost_supports_are_older,
     majorities_bind_later_groups, promises_ascend, reports_are_of_promises, rows_are_safe,
     supports_are_of_decisions,
+};
+pub use sends::{
+    entries_are_appended_in_supported_groups, ids_keep_their_sends, pending_updates_are_settled,
+    senders_are_supported, updates_are_sent_once,
 };

@@ -136,7 +136,7 @@ module _ (now : Moment) (k : Kept) (r : Run) where
 
   -- and it changes nothing
   pub dropped_leaves : (reason : Reason) → (take_update now k r).dropped ≡ Some reason → (take_update now k r).run ≡ r
-  dropped_leaves reason = by_putting now (received_as r.process k) k r (λ z. z.dropped ≡ Some reason → z.run ≡ r) (λ e. absurd (cc)) (λ e. absurd (cc)) (λ other apart e. refl)
+  dropped_leaves reason = by_putting now (received_as r.process k) k r (λ z. z.dropped ≡ Some reason → z.run ≡ r) (λ f e. absurd (cc)) (λ f e. absurd (cc)) (λ other apart e. refl)
 
 pub unanswered_leaves : (now : Moment) (from : ℕ) (want : Want) (r : Run) (reason : Reason) → (answer_ask now from want r).dropped ≡ Some reason → (answer_ask now from want r).run ≡ r
-unanswered_leaves now from want r reason = by_answering now from want r (λ z. z.dropped ≡ Some reason → z.run ≡ r) (λ k e. absurd (cc)) (λ e. refl)
+unanswered_leaves now from want r reason = by_answering now from want r (λ z. z.dropped ≡ Some reason → z.run ≡ r) (λ id k f e. absurd (cc)) (λ e. refl)

@@ -133,30 +133,30 @@ by_using now r P stays goes enters = by_hole (first_hole r.process.waiting.held)
     by_hole (Some hole) = stays
 
 -- an update that is put is kept or not, and may fill the last hole
-pub by_kept {ℓ} : (now : Moment) (putting : Putting) (k : Kept) (r : Run) (P : Run → Type ℓ) → P r → P (update_kept Stored k r) → P (use_if_whole now (update_kept Filled k r)) → P (update_put now putting k r)
-by_kept now Filled k r P stays stores fills = fills
-by_kept now Stored k r P stays stores fills = stores
+pub by_kept {ℓ} : (now : Moment) (putting : Putting) (k : Kept) (r : Run) (P : Run → Type ℓ) → P r → (putting ≡ Stored → P (update_kept Stored k r)) → (putting ≡ Filled → P (use_if_whole now (update_kept Filled k r))) → P (update_put now putting k r)
+by_kept now Filled k r P stays stores fills = fills refl
+by_kept now Stored k r P stays stores fills = stores refl
 by_kept now Known k r P stays stores fills = stays
 by_kept now Stranger k r P stays stores fills = stays
 by_kept now OutOfRange k r P stays stores fills = stays
 
 -- and one that is received is taken where it is kept
 pub by_putting {ℓ} : (now : Moment) (putting : Putting) (k : Kept) (r : Run) (P : Ruled → Type ℓ)
-    → P (done (use_if_whole now (update_kept Filled k r))) → P (done (update_kept Stored k r)) → ((reason : Reason) → reason ≢ reasons.Disjoint → P (dropped reason r)) → P (put_ruled now putting k r)
-by_putting now Filled k r P fills stores refuses = fills
-by_putting now Stored k r P fills stores refuses = stores
+    → (putting ≡ Filled → P (done (use_if_whole now (update_kept Filled k r)))) → (putting ≡ Stored → P (done (update_kept Stored k r))) → ((reason : Reason) → reason ≢ reasons.Disjoint → P (dropped reason r)) → P (put_ruled now putting k r)
+by_putting now Filled k r P fills stores refuses = fills refl
+by_putting now Stored k r P fills stores refuses = stores refl
 by_putting now Known k r P fills stores refuses = refuses reasons.Old (λ e. cc)
 by_putting now Stranger k r P fills stores refuses = refuses reasons.NotMember (λ e. cc)
 by_putting now OutOfRange k r P fills stores refuses = refuses reasons.OutOfWindow (λ e. cc)
 
 -- an update that is asked for goes back, or isn't held
 pub by_answering {ℓ} : (now : Moment) (from : ℕ) (want : Want) (r : Run) (P : Ruled → Type ℓ)
-    → ((k : Kept) → P (done (sent_to now (bodies.Update (as_sent k)) from r))) → P (dropped reasons.NotHeld r) → P (answer_ask now from want r)
-by_answering now from (wants.Update id) r P gives hasnt = go (held_update id r.process)
+    → ((id : UpdateId) (k : Kept) → held_update id r.process ≡ Some k → P (done (sent_to now (bodies.Update (as_sent k)) from r))) → P (dropped reasons.NotHeld r) → P (answer_ask now from want r)
+by_answering now from (wants.Update id) r P gives hasnt = go (held_update id r.process) refl
   where
-    go : (o : Option Kept) → P (elim o as (λ o. Ruled) [ None ↦ dropped reasons.NotHeld r | Some k ↦ done (sent_to now (bodies.Update (as_sent k)) from r) ])
-    go None = hasnt
-    go (Some k) = gives k
+    go : (o : Option Kept) → held_update id r.process ≡ o → P (elim o as (λ o. Ruled) [ None ↦ dropped reasons.NotHeld r | Some k ↦ done (sent_to now (bodies.Update (as_sent k)) from r) ])
+    go None e = hasnt
+    go (Some k) e = gives id k e
 by_answering now from (wants.Table group) r P gives hasnt = hasnt
 
 -- a send is refused, or gets its number

@@ -84,7 +84,7 @@ hears from p = reads_at 713000 (record p { timing = record (p.timing) { heard = 
 
 -- this answer, and nothing is given
 abbrev alone : RowAnswer → Process → Outcome
-alone answer p = record { process = p; answer = answer; out = nothing; promises = []; makings = [] }
+alone answer p = record { process = p; answer = answer; out = nothing; promises = []; makings = []; sendings = [] }
 
 -- it is dropped before anything is noted of it
 abbrev turned_away : Reason → Outcome
@@ -188,6 +188,7 @@ an_election : receives member 2 0 (bodies.Election 8 (whys.Join 7)) ≡ record {
   out = record nothing { sends = sent 2 stamp (bodies.Promise 8 (report 0 kinds.Informed 7 0) (Some (decision 7 0 699990))) ∷ [] };
   promises = record { number = 8; report = report 0 kinds.Informed 7 0; decision = Some (decision 7 0 699990) } ∷ [];
   makings = [];
+  sendings = [];
 }
 unfolding step kind_rule timed_duties duties
 an_election = refl
@@ -244,6 +245,7 @@ without_a_payload : receives member 2 0 (bodies.Decision of_an_update) ≡ recor
   out = record nothing { sends = sent 1 None (bodies.Ask (wants.Update update)) ∷ [] };
   promises = [];
   makings = [];
+  sendings = [];
 }
 unfolding step kind_rule timed_duties duties
 without_a_payload = refl
@@ -273,7 +275,8 @@ else_the_next : receives member 1 0 (bodies.Decision (by_the_last 5)) ≡ record
   answer = Done;
   out = record nothing { made = Some made_next; sends = sent 1 stamp (bodies.Decision made_next) ∷ sent 2 None (bodies.Decision made_next) ∷ [] };
   promises = [];
-  makings = record { decision = made_next; before = Some (by_the_last 5); reports = [] } ∷ [];
+  makings = record { decision = made_next; before = Some (by_the_last 5); reports = []; appended = [] } ∷ [];
+  sendings = [];
 }
 unfolding step kind_rule timed_duties duties is_up
 else_the_next = refl

@@ -18,6 +18,7 @@ mod Forged
 mod EntriesWorked
 mod SendsWorked
 mod SendsScheduled
+mod SendsHistory
 mod TimeEdges
 mod MayFollow
 mod Decided

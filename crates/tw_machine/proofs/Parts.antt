@@ -241,19 +241,19 @@ filled_on : (now : Moment) (k : Kept) (r : Run) → GoesOn now r (use_if_whole n
 filled_on now k r = then_on now r (update_kept Filled k r) (use_if_whole now (update_kept Filled k r)) (waits_on now r _ refl refl) (use_on now (update_kept Filled k r))
 
 put_on : (now : Moment) (p : Putting) (k : Kept) (r : Run) → GoesOn now r (update_put now p k r)
-put_on now p k r = by_kept now p k r (GoesOn now r) (stays now r) (waits_on now r _ refl refl) (filled_on now k r)
+put_on now p k r = by_kept now p k r (GoesOn now r) (stays now r) (λ e. waits_on now r _ refl refl) (λ e. filled_on now k r)
 
 update_on : (now : Moment) (k : Kept) (r : Run) → GoesOn now r (take_update now k r).run
-update_on now k r = by_putting now (received_as r.process k) k r (λ z. GoesOn now r z.run) (filled_on now k r) (waits_on now r _ refl refl) (λ reason other. stays now r)
+update_on now k r = by_putting now (received_as r.process k) k r (λ z. GoesOn now r z.run) (λ e. filled_on now k r) (λ e. waits_on now r _ refl refl) (λ reason other. stays now r)
 
 answer_ask_on : (now : Moment) (from : ℕ) (want : Want) (r : Run) → GoesOn now r (answer_ask now from want r).run
-answer_ask_on now from want r = by_answering now from want r (λ z. GoesOn now r z.run) (λ k. one_sent now _ from r) (stays now r)
+answer_ask_on now from want r = by_answering now from want r (λ z. GoesOn now r z.run) (λ id k e. one_sent now _ from r) (stays now r)
 
 sent_on : (team : Team) (now : Moment) (k : Kept) (r : Run) → GoesOn now r (update_sent team now k r)
 sent_on team now k r =
-    let given : Run = seq_given k.entry.id.seq r in
+    let given : Run = seq_given k r in
     let put : Run = update_put now (putting (view_decision r.process.belief) k r.process.waiting) k given in
-    then_on now r put (update_sent team now k r) (then_on now r given put (waits_on now r _ refl refl) (put_on now _ k given)) (others_sent team.n now (bodies.Update k) put)
+    then_on now r put (update_sent team now k r) (then_on now r given put (inner_on now r given (record { identity = refl; timing = refl; sends = refl; passes = refl; earlies = refl })) (put_on now _ k given)) (others_sent team.n now (bodies.Update k) put)
 
 propose_on : (team : Team) (now : Moment) (order : Order) (atom : Atom) (payload : List ℕ) (r : Run) → GoesOn now r (propose team now order atom payload r).run
 propose_on team now order atom payload r = by_proposing team now order atom payload r (λ z. GoesOn now r z.run) (λ free. sent_on team now (own_update now order atom payload r.process) r) (λ why e. stays now r)
@@ -315,10 +315,10 @@ promise_agrees given r e = go (wants given r.process.ballot) e
     go false e = absurd (cc)
 
 update_agrees : (now : Moment) (k : Kept) (r : Run) → (take_update now k r).dropped ≢ Some reasons.Disjoint
-update_agrees now k r = by_putting now (received_as r.process k) k r (λ z. z.dropped ≢ Some reasons.Disjoint) (λ e. absurd (cc)) (λ e. absurd (cc)) (λ reason other e. other (cc))
+update_agrees now k r = by_putting now (received_as r.process k) k r (λ z. z.dropped ≢ Some reasons.Disjoint) (λ f e. absurd (cc)) (λ f e. absurd (cc)) (λ reason other e. other (cc))
 
 ask_agrees : (now : Moment) (from : ℕ) (want : Want) (r : Run) → (answer_ask now from want r).dropped ≢ Some reasons.Disjoint
-ask_agrees now from want r = by_answering now from want r (λ z. z.dropped ≢ Some reasons.Disjoint) (λ k e. absurd (cc)) (λ e. absurd (cc))
+ask_agrees now from want r = by_answering now from want r (λ z. z.dropped ≢ Some reasons.Disjoint) (λ id k f e. absurd (cc)) (λ e. absurd (cc))
 
 kind_agrees : (team : Team) (now : Moment) (head : Head) (body : Body) (r : Run) → (kind_rule team now head body r).dropped ≢ Some Reason.Disjoint
 unfolding kind_rule

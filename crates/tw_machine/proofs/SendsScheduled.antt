@@ -41,7 +41,7 @@ formed =
     ∷ []
 
 -- an update that a member missed is asked for, comes, and lets it take the decision
-abbrev a_missing_payload_comes : List Step
+abbrev pub a_missing_payload_comes : List Step
 a_missing_payload_comes =
     at 735000 0 735000 (Recv 23)
     ∷ at 735000 0 735000 (Recv 26)
@@ -58,7 +58,7 @@ unfolding digits is_up step kind_rule timed_duties duties appended_list
 a_missing_payload_comes_rows = refl
 
 -- a later decision is held in place of an earlier one
-abbrev a_newer_one_is_held : List Step
+abbrev pub a_newer_one_is_held : List Step
 a_newer_one_is_held =
     at 835000 0 835000 (Recv 15)
     ∷ at 834000 0 834000 (Recv 30)
@@ -97,7 +97,7 @@ unfolding digits is_up step kind_rule timed_duties duties appended_list
 a_promise_releases_rows = refl
 
 -- a ballot whose best decision lacks a payload waits for that
-abbrev a_group_lacks_a_payload : List Step
+abbrev pub a_group_lacks_a_payload : List Step
 a_group_lacks_a_payload =
     at 953000 0 953000 (Recv 41)
     ∷ at 952000 0 952000 (Recv 41)

@@ -3,11 +3,12 @@ use Rattle.std.specs.Prelude.{ℕ, Bool, if◌then◌else◌, List, [], ◌∷�
 use Rattle.tw_num.specs.declared.moment.Moment.{Moment}
 use Rattle.tw_types.specs.declared.team.Team.{Team}
 use Rattle.tw_types.specs.declared.message.Entry.{Entry}
+use Rattle.tw_types.specs.declared.message.Kept.{Kept}
 use Rattle.tw_types.specs.declared.message.Decision.{Decision}
 use Rattle.tw_types.specs.declared.datagram.Body.TheVariants as bodies
 use Rattle.tw_types.specs.Votes.{Making}
 use Rattle.tw_types.specs.Flag.{is_up}
-use Rattle.tw_types.specs.Appending.{appended_list}
+use Rattle.tw_types.specs.Appending.{appended_list, appended_kept}
 use Rattle.tw_types.specs.Turns.{is_turn, next_decision}
 use Rattle.tw_types.specs.Groups.{next_making}
 use Rattle.tw_types.specs.Process.{Process}
@@ -40,8 +41,16 @@ has_turn team t p = is_turn team (member_of p.identity) (last_decision p) p.vote
 abbrev pub entries_to_add : Team → ℕ → Decision → Process → List Entry
 entries_to_add team t last p = if is_up team p.vote p.belief (Some t) then appended_list team t p.log.passed last p.waiting.pending else []
 
+-- and these with their payloads
+abbrev pub kept_to_add : Team → ℕ → Decision → Process → List Kept
+kept_to_add team t last p = if is_up team p.vote p.belief (Some t) then appended_kept team t p.log.passed last p.waiting.pending else []
+
+-- what the next decision is made of
+abbrev pub next_made : Team → ℕ → Decision → Process → Making
+next_made team t last p = next_making last (kept_to_add team t last p) (next_decision (entries_to_add team t last p) last t p.identity.who)
+
 abbrev pub turn_taken : Team → Moment → Decision → ℕ → Run → Run
-turn_taken team now last t r = decision_made team now (next_making last (next_decision (entries_to_add team t last r.process) last t r.process.identity.who)) t r
+turn_taken team now last t r = decision_made team now (next_made team t last r.process) t r
 
 abbrev pub take_turn : Team → Moment → ℕ → Run → Run
 take_turn team now t r = by (last_decision r.process)

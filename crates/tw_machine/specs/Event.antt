@@ -7,6 +7,7 @@ use Rattle.tw_types.specs.declared.message.Atom.{Atom}
 use Rattle.tw_types.specs.declared.row.RowAnswer.{RowAnswer}
 use Rattle.tw_types.specs.declared.outputs.Outputs.{Outputs}
 use Rattle.tw_types.specs.Process.{Process}
+use Rattle.tw_types.specs.Sends.{Sending}
 use Rattle.tw_types.specs.Votes.{Promise, Making}
 
 -- Time passed; bytes came, of which the wire says what they are; team time is known to lie from lo to hi; or the process is to send an
@@ -17,10 +18,12 @@ pub data Event : Type 0 where
   Reference : (lo hi : ℕ) → Event
   Send : (order : Order) → (atom : Atom) → (payload : List ℕ) → Event
 
--- The process after an event, its answer as a row tells it, what it gives, and what it promised and made, which a history collects.
+-- The process after an event, its answer as a row tells it, what it gives, and what it promised, made and sent for the first time, which a
+-- history collects.
 pub record Outcome : Type 0 where
   pub process : Process
   pub answer : RowAnswer
   pub out : Outputs
   pub promises : List Promise
   pub makings : List Making
+  pub sendings : List Sending

@@ -1,6 +1,7 @@
--- What the processes of a schedule promised, what they made and when they were up: lists beside the world, the newest item first.
+-- What the processes of a schedule promised, made and sent, and when they were up: lists beside the world, the newest item first.
 -- The laws on groups speak of these lists at one moment; no contract of a function that runs reads them.
-use Rattle.std.specs.Prelude.{ℕ, suc, ◌==◌, Bool, true, false, ◌&&◌, if◌then◌else◌, List, [], ◌∷◌, Option, Some, None}
+use Rattle.std.specs.Prelude.{ℕ, suc, ◌==◌, Bool, true, false, ◌&&◌, if◌then◌else◌, List, [], ◌∷◌, ◌++◌, find, Option, Some, None}
+use Rattle.std.specs.Option.{option_map_or}
 use Rattle.tw_types.specs.declared.team.Team.{Team}
 use Rattle.tw_types.specs.declared.message.Member.{Member}
 use Rattle.tw_types.specs.declared.message.Kept.{Kept}
@@ -8,6 +9,7 @@ use Rattle.tw_types.specs.declared.message.Decision.{Decision}
 use Rattle.tw_types.specs.declared.step.Step.{Step}
 use Rattle.tw_types.specs.Votes.{Promise, Making}
 use Rattle.tw_types.specs.Process.{Process}
+use Rattle.tw_types.specs.Sends.{Sending}
 use Rattle.tw_machine.specs.Admissible.{is_start}
 use Rattle.tw_machine.specs.Standing.{member_of, last_decision}
 use Rattle.tw_machine.specs.Step.{view_of}
@@ -26,7 +28,7 @@ pub record Promised : Type 0 where
   pub h : ℕ
   pub promise : Promise
 
--- A decision that was made, by whom and when; the entries that its maker added, and the whole list with them, are left empty so far.
+-- A decision that was made, by whom and when, and its list of updates, whole: what the decision's window ends. No process need know it.
 pub record Make : Type 0 where
   pub who : ℕ
   pub member : Member
@@ -34,8 +36,16 @@ pub record Make : Type 0 where
   pub t : ℕ
   pub h : ℕ
   pub making : Making
-  pub appended : List Kept
   pub log : List Kept
+
+-- an update that was sent for the first time, by whom and when, and in which group
+pub record SentUpdate : Type 0 where
+  pub who : ℕ
+  pub member : Member
+  pub life : ℕ
+  pub t : ℕ
+  pub h : ℕ
+  pub sending : Sending
 
 -- a process that was up after its step, at this reading and with this last decision
 pub record Up : Type 0 where
@@ -50,16 +60,34 @@ pub record Up : Type 0 where
 pub record History : Type 0 where
   pub promises : List Promised
   pub makes : List Make
+  pub sends : List SentUpdate
   pub ups : List Up
 
 abbrev pub no_history : History
-no_history = record { promises = []; makes = []; ups = [] }
+no_history = record { promises = []; makes = []; sends = []; ups = [] }
 
 abbrev pub promise_item : ℕ → Step → Promise → Promised
 promise_item life s given = record { who = s.who; life = life; t = s.t; h = s.h; promise = given }
 
-abbrev pub make_item : Member → ℕ → Step → Making → Make
-make_item member life s making = record { who = s.who; member = member; life = life; t = s.t; h = s.h; making = making; appended = []; log = [] }
+-- the list of a decision that was made: that of the newest make of its group and turn; empty where there is no decision
+abbrev pub list_of : List Make → Option Decision → List Kept
+list_of makes None = []
+list_of makes (Some d) = option_map_or (λ (m : Make). m.log) (find (λ (m : Make). (m.making.decision.group == d.group) && (m.making.decision.turn == d.turn)) makes) []
+
+-- A make, behind those before it. Its list is that of the decision that it stands on, and then what was added.
+abbrev pub make_item : Member → ℕ → Step → List Make → Making → Make
+make_item member life s older making = record {
+  who = s.who;
+  member = member;
+  life = life;
+  t = s.t;
+  h = s.h;
+  making = making;
+  log = list_of older making.before ++ making.appended;
+}
+
+abbrev pub send_item : Member → ℕ → Step → Sending → SentUpdate
+send_item member life s sending = record { who = s.who; member = member; life = life; t = s.t; h = s.h; sending = sending }
 
 -- what a step gave in its order, put before what is older
 abbrev pub promises_on : ℕ → Step → List Promise → List Promised → List Promised
@@ -68,7 +96,11 @@ promises_on life s (given ∷ more) older = promises_on life s more (promise_ite
 
 abbrev pub makes_on : Member → ℕ → Step → List Making → List Make → List Make
 makes_on member life s [] older = older
-makes_on member life s (making ∷ more) older = makes_on member life s more (make_item member life s making ∷ older)
+makes_on member life s (making ∷ more) older = makes_on member life s more (make_item member life s older making ∷ older)
+
+abbrev pub sends_on : Member → ℕ → Step → List Sending → List SentUpdate → List SentUpdate
+sends_on member life s [] older = older
+sends_on member life s (sending ∷ more) older = sends_on member life s more (send_item member life s sending ∷ older)
 
 -- a process that is up after this step, at its reading and with its last decision
 abbrev pub up_at : ℕ → Step → Process → ℕ → Decision → Up
@@ -86,16 +118,21 @@ abbrev pub up_by : Team → ℕ → Step → Option Process → List Up → List
 up_by team life s None older = older
 up_by team life s (Some p) older = up_on life s p (view_of team s.h p).up (view_of team s.h p).reading (last_decision p) older
 
--- what a step made was made by the process as it is after it
+-- what a step made and sent is of the process as it is after it
 abbrev pub makes_by : ℕ → Step → Option Process → List Making → List Make → List Make
 makes_by life s None makings older = older
 makes_by life s (Some p) makings older = makes_on (member_of p.identity) life s makings older
+
+abbrev pub sends_by : ℕ → Step → Option Process → List Sending → List SentUpdate → List SentUpdate
+sends_by life s None sendings older = older
+sends_by life s (Some p) sendings older = sends_on (member_of p.identity) life s sendings older
 
 -- the lists after a step that comes to this, in a life
 abbrev pub history_after : Team → ℕ → Step → Deed → History → History
 history_after team life s d older = record {
   promises = promises_on life s d.promises older.promises;
   makes = makes_by life s d.process d.makings older.makes;
+  sends = sends_by life s d.process d.sendings older.sends;
   ups = up_by team life s d.process older.ups;
 }
 

@@ -1,5 +1,5 @@
 -- The rule of a send.
-use Rattle.std.specs.Prelude.{ℕ, ◌+◌, unwrap_or, List, length, find, Option, Some, None}
+use Rattle.std.specs.Prelude.{ℕ, ◌+◌, unwrap_or, List, [], ◌∷◌, ◌++◌, length, find, Option, Some, None}
 use Rattle.tw_num.specs.declared.moment.Moment.{Moment}
 use Rattle.tw_types.specs.declared.team.Team.{Team}
 use Rattle.tw_types.specs.declared.message.Order.{Order}
@@ -35,14 +35,17 @@ own_seq p = seq_to_send (own_seat p) p.next_seq
 abbrev pub own_update : Moment → Order → Atom → List ℕ → Process → Kept
 own_update now order atom payload p = update_of (member_of p.identity) (own_seq p) (unwrap_or now.reading 0) order atom payload
 
--- this number is given
-abbrev pub seq_given : ℕ → Run → Run
-seq_given seq r = record r { process = record (r.process) { next_seq = seq + 1 } }
+-- its number is given, and it is noted as sent in the process's group
+abbrev pub seq_given : Kept → Run → Run
+seq_given k r = record r {
+  process = record (r.process) { next_seq = k.entry.id.seq + 1 };
+  sendings = r.sendings ++ record { group = (or_none (last_decision r.process)).group; update = k } ∷ [];
+}
 
 -- It waits as one that came does, and then goes to all other processes, members or not.
 abbrev pub update_sent : Team → Moment → Kept → Run → Run
 update_sent team now k r =
-    sent_to_others team.n now (bodies.Update k) (update_put now (putting (view_decision r.process.belief) k r.process.waiting) k (seq_given k.entry.id.seq r))
+    sent_to_others team.n now (bodies.Update k) (update_put now (putting (view_decision r.process.belief) k r.process.waiting) k (seq_given k r))
 
 abbrev pub propose : Team → Moment → Order → Atom → List ℕ → Run → Ended
 propose team now order atom payload r = by (first_send_refusal (refusals team now (length payload) r.process))

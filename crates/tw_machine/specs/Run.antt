@@ -7,19 +7,21 @@ use Rattle.tw_types.specs.declared.answer.Reason.{Reason}
 use Rattle.tw_types.specs.declared.row.RowAnswer.{RowAnswer}
 use Rattle.tw_types.specs.Outputs.{nothing}
 use Rattle.tw_types.specs.Process.{Process}
+use Rattle.tw_types.specs.Sends.{Sending}
 use Rattle.tw_types.specs.Votes.{Promise, Making}
 
--- A process, and what it gave so far in this event: what is sent, printed and delivered, and what it promised and made, each in
--- its order. A part of a step is a test and a change of this, and the part is the choice of the two.
+-- A process, and what it gave so far in this event: what is sent, printed and delivered, what it promised and made, and the updates that
+-- it sent for the first time, each in its order. A part of a step is a test and a change of this, and the part is the choice of the two.
 pub record Run : Type 0 where
   pub process : Process
   pub out : Outputs
   pub promises : List Promise
   pub makings : List Making
+  pub sendings : List Sending
 
 -- a process that gave nothing yet
 abbrev pub run_of : Process → Run
-run_of p = record { process = p; out = nothing; promises = []; makings = [] }
+run_of p = record { process = p; out = nothing; promises = []; makings = []; sendings = [] }
 
 -- these are sent too
 abbrev pub with_sends : List (ℕ × Datagram) → Run → Run

@@ -12,6 +12,7 @@ use Rattle.tw_types.specs.declared.outputs.Outputs.{Outputs}
 use Rattle.tw_types.specs.declared.outputs.Mode.TheVariants as modes
 use Rattle.tw_types.specs.Outputs.{nothing}
 use Rattle.tw_types.specs.Process.{Process, started}
+use Rattle.tw_types.specs.Sends.{Sending}
 use Rattle.tw_machine.specs.Event.{Event, Outcome}
 use Rattle.tw_machine.specs.Step.{step, looked}
 use Rattle.tw_machine.specs.Dispatches.{Dispatch, sent_at}
@@ -22,20 +23,21 @@ pub record World : Type 0 where
   pub process_of : ℕ → Option Process
   pub sent : List Dispatch
 
--- What an act comes to: what then runs of the process, how the step ended, what it gave, and what it promised and made.
+-- What an act comes to: what then runs of the process, how the step ended, what it gave, and what it promised, made and sent.
 pub record Deed : Type 0 where
   pub process : Option Process
   pub answer : RowAnswer
   pub out : Outputs
   pub promises : List Promise
   pub makings : List Making
+  pub sendings : List Sending
 
 -- an act that gives nothing
 abbrev pub silent : Option Process → RowAnswer → Deed
-silent p answer = record { process = p; answer = answer; out = nothing; promises = []; makings = [] }
+silent p answer = record { process = p; answer = answer; out = nothing; promises = []; makings = []; sendings = [] }
 
 abbrev pub deed_of : Outcome → Deed
-deed_of o = record { process = Some o.process; answer = o.answer; out = o.out; promises = o.promises; makings = o.makings }
+deed_of o = record { process = Some o.process; answer = o.answer; out = o.out; promises = o.promises; makings = o.makings; sendings = o.sendings }
 
 abbrev pub happen : Team → ℕ → Event → Process → Deed
 happen team h e p = deed_of (step team h e p)

@@ -10,16 +10,14 @@ use Rattle.tw_types.specs.declared.message.Entry.{Entry}
 use Rattle.tw_types.specs.declared.message.Kept.{Kept}
 use Rattle.tw_types.specs.declared.message.Seat.{Seat}
 use Rattle.tw_types.specs.declared.message.Decision.{Decision}
+use Rattle.tw_types.specs.Items.{In}
 use Rattle.tw_types.specs.Ranges.{Ascends}
 use Rattle.tw_types.specs.Decisions.{is_same_member, is_seat_of}
 use Rattle.tw_types.specs.Updates.{sender}
-use Rattle.tw_types.specs.Appending.{count_of, is_candidate, may_come, goes_before, added_entry, IsNextEntry, EachIsNext, has_room, IsAppended, comes_next, come_in_turn, added_entries, lists_of, longest, may_append, appended_list}
+use Rattle.tw_types.specs.Sends.{as_sent}
+use Rattle.tw_types.specs.Appending.{count_of, is_candidate, may_come, goes_before, added_entry, IsNextEntry, EachIsNext, has_room, IsAppended, comes_next, come_in_turn, added_entries, added_kept, lists_of, longest, may_append, appended_updates, appended_list, appended_kept}
 
 -- ---- items of lists
-
-abbrev pub In : {X : Type 0} → X → List X → Type 0
-In x [] = ⊥
-In x (y ∷ ys) = (x ≡ y) ⊎ In x ys
 
 pub contained : {X : Type 0} (xs : List X) (x : X) → In x xs → Contains xs x
 contained [] x i = absurd i
@@ -353,3 +351,31 @@ appended_is team t passed d pending asc = go (longest_is lists [] none)
               let b = added_length d [] (longest lists) in
               omega (arith, l, a, b, ap length u.same);
         }
+
+-- ---- the updates with their payloads have just these entries
+
+entries_of : (d : Decision) (before : List Entry) (updates : List Kept) → map (λ (k : Kept). k.entry) (added_kept d before updates) ≡ added_entries d before updates
+entries_of d before [] = refl
+entries_of d before (k ∷ updates) = ap (λ es. added_entry d before k ∷ es) (entries_of d (before ++ added_entry d before k ∷ []) updates)
+
+pub appended_entries : (team : Team) (t passed : ℕ) (d : Decision) (pending : List Kept) → map (λ (k : Kept). k.entry) (appended_kept team t passed d pending) ≡ appended_list team t passed d pending
+unfolding appended_list appended_kept
+appended_entries team t passed d pending = entries_of d [] (appended_updates team t passed d pending)
+
+-- and each is a pending one, but for where it stands
+pub record IsAddedFrom (pending : List Kept) (k : Kept) : Type 0 where
+  pub update : Kept
+  pub waits : In update pending
+  pub same : as_sent k ≡ as_sent update
+
+added_come : (d : Decision) (pending : List Kept) (before : List Entry) (updates : List Kept) → EachIn pending updates → AllByRecursion (IsAddedFrom pending) (added_kept d before updates)
+added_come d pending before [] all = tt
+added_come d pending before (u ∷ updates) all = (record { update = u; waits = all.0; same = refl }, added_come d pending (before ++ added_entry d before u ∷ []) updates all.1)
+
+pub appended_come : (team : Team) (t passed : ℕ) (d : Decision) (pending : List Kept) → AllByRecursion (IsAddedFrom pending) (appended_kept team t passed d pending)
+unfolding appended_kept
+appended_come team t passed d pending =
+    let lists = filter (may_append team t passed d pending) (lists_of (length pending) pending) in
+    let none : In [] lists = in_filter (may_append team t passed d pending) (lists_of (length pending) pending) [] (in_lists (length pending) pending [] tt (omega arith)) refl in
+    let i = of_filter (may_append team t passed d pending) (lists_of (length pending) pending) (longest lists) (longest_is lists [] none).there in
+    added_come d pending [] (longest lists) (of_lists (length pending) pending (longest lists) i.0)

@@ -140,6 +140,15 @@ appended_updates team t passed d pending = longest (filter (may_append team t pa
 unfoldable pub appended_list : Team → (t passed : ℕ) → Decision → List Kept → List Entry
 appended_list team t passed d pending = added_entries d [] (appended_updates team t passed d pending)
 
+-- updates as they stand in the list, with the entries that they get when they are added in this order, and delivered nowhere yet
+abbrev pub added_kept : Decision → (before : List Entry) → List Kept → List Kept
+added_kept d before [] = []
+added_kept d before (k ∷ updates) = record k { entry = added_entry d before k; early = false } ∷ added_kept d (before ++ added_entry d before k ∷ []) updates
+
+-- the appended list with its payloads
+unfoldable pub appended_kept : Team → (t passed : ℕ) → Decision → List Kept → List Kept
+appended_kept team t passed d pending = added_kept d [] (appended_updates team t passed d pending)
+
 -- ---- the decision with it
 
 -- a seat's next number behind these entries

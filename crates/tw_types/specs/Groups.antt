@@ -122,8 +122,8 @@ group_made team b log payloads me t = by (first_objection (objections team b log
 
 -- what is told of a group that was made, the inconsistent reports too
 abbrev pub group_making : Ballot → Decision → Making
-group_making b d = record { decision = d; before = b.best; reports = b.reports.items }
+group_making b d = record { decision = d; before = b.best; reports = b.reports.items; appended = [] }
 
--- and of a next decision
-abbrev pub next_making : Decision → Decision → Making
-next_making last d = record { decision = d; before = Some last; reports = [] }
+-- and of a next decision, which adds these updates
+abbrev pub next_making : Decision → List Kept → Decision → Making
+next_making last appended d = record { decision = d; before = Some last; reports = []; appended = appended }

@@ -6,6 +6,7 @@ pub mod Examples
 pub mod Outputs
 pub mod Contents
 pub mod Numbered
+pub mod Items
 pub mod Row
 pub mod Printed
 pub mod Process
@@ -29,3 +30,4 @@ pub mod Waiting
 pub mod Sends
 pub mod Logs
 pub mod Appending
+pub mod Deliveries

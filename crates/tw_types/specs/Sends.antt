@@ -68,6 +68,11 @@ update_of me seq stamp order atom payload = record {
   payload = record { items = payload };
 }
 
+-- an update that a process sent for the first time, and the group in which it was then
+pub record Sending : Type 0 where
+  pub group : ℕ
+  pub update : Kept
+
 -- an update as it is sent again: whether it was ordered late, or delivered early, doesn't count
 abbrev pub as_sent : Kept → Kept
 as_sent k = record k { entry = record (k.entry) { late = false }; early = false }

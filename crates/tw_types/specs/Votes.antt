@@ -1,5 +1,6 @@
 -- What a process promised, and what it tells of its promises and of the groups that it makes.
 use Rattle.std.specs.Prelude.{ℕ, List, Option, None}
+use Rattle.tw_types.specs.declared.message.Kept.{Kept}
 use Rattle.tw_types.specs.declared.message.Decision.{Decision}
 use Rattle.tw_types.specs.declared.message.Report.{Report}
 
@@ -20,9 +21,10 @@ pub record Promise : Type 0 where
   pub report : Report
   pub decision : Option Decision
 
--- A decision that was made, the one that it stands on, and the reports of the ballot that it was made of: the best one of the
--- ballot for a new group, and for a next decision the last one, with no reports.
+-- A decision that was made, the one that it stands on, the reports of the ballot that it was made of, and the updates that its maker
+-- added to the list: a new group stands on the best one of the ballot and adds nothing, a next decision on the last one, with no reports.
 pub record Making : Type 0 where
   pub decision : Decision
   pub before : Option Decision
   pub reports : List Report
+  pub appended : List Kept

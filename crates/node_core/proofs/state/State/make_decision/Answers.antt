@@ -6,7 +6,7 @@ use Rattle.tw_machine.specs.Deciding.{supporting, making_kept}
 use Rattle.node_core.proofs.state.State.make_decision.Goals as goal
 
 pub returns-clause-stands : goal.returns-clause-stands
-returns-clause-stands c = λ team before reports r s. c.send_to_others.ensures.stands team (making_kept (record { decision = c.args.d; before = before; reports = reports }) c.args.t r) (record {
+returns-clause-stands c = λ team before reports appended r s. c.send_to_others.ensures.stands team (making_kept (record { decision = c.args.d; before = before; reports = reports; appended = appended }) c.args.t r) (record {
   same_team = c.enter.ensures.team ∙ s.same_team;
   process = c.enter.ensures.stands (supporting c.args.t r.process) (record {
     identity = s.process.identity;

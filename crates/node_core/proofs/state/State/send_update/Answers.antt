@@ -30,7 +30,7 @@ returns-clause-stands c = λ team r s.
     own_here c.args.self.now c.args.now.now c.args.order c.args.atom c.args.payload.now r.process c.own_seat-seat.result c.seq_to_send-seq.result c.unwrap_or.result c.own_update-kept.result s.process seat c.seq_to_send-seq.ensures c.unwrap_or.ensures c.own_update-kept.ensures.exact in
     rw (proposed team c.args.now.now c.args.order c.args.atom c.args.payload.now r free)
     (subst (λ (k : Kept). RunStandsFor team c.keep_own.new.self c.send_to_others.new.out (update_sent team c.args.now.now k r)) own
-    (c.send_to_others.ensures.stands team _ (c.keep_own.ensures.stands team (seq_given c.own_update-kept.result.entry.id.seq r) (record {
+    (c.send_to_others.ensures.stands team _ (c.keep_own.ensures.stands team (seq_given c.own_update-kept.result r) (record {
       same_team = s.same_team;
       process = record {
         identity = s.process.identity;

@@ -1,0 +1,218 @@
+-- Lists of updates and entries of which each keeps what its send gave.
+use Rattle.std.proofs.Common.{◌≡◌, ◌≢◌, refl, sym, ap, subst, ◌∙◌, inl, inr, ℕ, Bool, true, false, not, cond, List, [], ◌∷◌, map, drop, filter, filter_map, find, Option, Some, None, arith}
+use Rattle.std.specs.Prelude.{◌==◌, ◌&&◌}
+use Rattle.std.specs.List.{AllByRecursion, cons_option}
+use Rattle.std.specs.Option.{option_map, option_map_or}
+use Rattle.std.proofs.lemmas.Bool.Decides.{nat_tests}
+use Rattle.std.proofs.lemmas.Option.{same_Some}
+use Rattle.tw_types.specs.declared.datagram.Body.{Body}
+use Rattle.tw_types.specs.declared.datagram.Body.TheVariants as bodies
+use Rattle.tw_types.specs.declared.message.UpdateId.{UpdateId}
+use Rattle.tw_types.specs.declared.message.Entry.{Entry}
+use Rattle.tw_types.specs.declared.message.Kept.{Kept}
+use Rattle.tw_types.specs.declared.message.Decision.{Decision}
+use Rattle.tw_types.specs.Decisions.{or_none}
+use Rattle.tw_types.specs.Logs.{needed, entry_joined}
+use Rattle.tw_types.specs.Process.{Process}
+use Rattle.tw_types.specs.Sends.{as_sent}
+use Rattle.tw_types.specs.Updates.{is_same_id, is_named, find_update, with_pending, waits_before}
+use Rattle.tw_types.specs.Waiting.{Held, Waiting, held_payloads, payloads_of, payloads_for, each_once, with_payload, released, settled_by}
+use Rattle.tw_types.proofs.Appended.{IsAddedFrom}
+use Rattle.tw_types.proofs.Lists.{all_parted}
+use Rattle.tw_machine.specs.Entering.{is_overtaken, let_go_below, entered}
+use Rattle.tw_machine.specs.History.{SentUpdate, Make, list_of}
+use Rattle.tw_machine.proofs.Tables.{all_joined, all_mapped, all_push}
+use Rattle.safety_laws.specs.Effects.{WasSent}
+use Rattle.safety_laws.specs.Ids.{IsOfSend, EntryIsOfSend, MakeKeeps, ProcessKeeps, BodyKeeps}
+use Rattle.tw_types.specs.Items.{In}
+use Rattle.safety_laws.specs.Made.{WasMade, WasMadeIfAny}
+use Rattle.safety_laws.specs.Sends.{id_of, AllSentOnce}
+use Rattle.safety_laws.proofs.Lists.{of_each, each_weaker, each_from, in_drop, in_filtered, found_in}
+use Rattle.safety_laws.proofs.MadeLists.{More}
+
+-- ---- where more was sent, all is kept
+
+-- an update, and an entry
+sent_more : (sends more : List SentUpdate) (k : Kept) → More sends more → WasSent sends k → WasSent more k
+sent_more sends more k all w = (w.0, all w.0 w.1, w.2)
+
+entry_more : (sends more : List SentUpdate) (e : Entry) → More sends more → EntryIsOfSend sends e → EntryIsOfSend more e
+entry_more sends more e all w = (w.0, all w.0 w.1, w.2)
+
+-- a make, a process, and a datagram's body
+pub make_more : (sends more : List SentUpdate) (m : Make) → More sends more → MakeKeeps sends m → MakeKeeps more m
+make_more sends more m all k = record {
+  appended = each_weaker (IsOfSend sends) (IsOfSend more) m.making.appended (λ u. sent_more sends more (as_sent u) all) k.appended;
+  list = each_weaker (IsOfSend sends) (IsOfSend more) m.log (λ u. sent_more sends more (as_sent u) all) k.list;
+  window = each_weaker (EntryIsOfSend sends) (EntryIsOfSend more) m.making.decision.window.items (λ e. entry_more sends more e all) k.window;
+}
+
+pub process_more : (sends more : List SentUpdate) (p : Process) → More sends more → ProcessKeeps sends p → ProcessKeeps more p
+process_more sends more p all k = record {
+  list = each_weaker (IsOfSend sends) (IsOfSend more) p.log.entries (λ u. sent_more sends more (as_sent u) all) k.list;
+  waiting = each_weaker (IsOfSend sends) (IsOfSend more) (payloads_of p.waiting) (λ u. sent_more sends more (as_sent u) all) k.waiting;
+}
+
+pub body_more : (sends more : List SentUpdate) (body : Body) → More sends more → BodyKeeps sends body → BodyKeeps more body
+body_more sends more (bodies.Update u) all k = sent_more sends more u all k
+body_more sends more (bodies.Promise number report decision) all k = tt
+body_more sends more (bodies.Decision d) all k = tt
+body_more sends more (bodies.NoDecision number group turn skip reports best) all k = tt
+body_more sends more (bodies.Election number why) all k = tt
+body_more sends more (bodies.Ask want) all k = tt
+body_more sends more (bodies.State group position total offset bytes) all k = tt
+body_more sends more (bodies.Sync ready) all k = tt
+
+-- ---- one send of each id
+
+-- a passed test of two ids makes them one
+pub same_id_of : (a b : UpdateId) → is_same_id a b ≡ true → a ≡ b
+same_id_of a b e = record_same (grind (arith, nat_tests)) (grind (arith, nat_tests)) (grind (arith, nat_tests))
+  where
+    record_same : a.who ≡ b.who → a.incarnation ≡ b.incarnation → a.seq ≡ b.seq → a ≡ b
+    record_same p q r =
+        ap (λ (w : ℕ). record { who = w; incarnation = a.incarnation; seq = a.seq }) p
+        ∙ ap (λ (i : ℕ). record { who = b.who; incarnation = i; seq = a.seq }) q
+        ∙ ap (λ (n : ℕ). record { who = b.who; incarnation = b.incarnation; seq = n }) r
+
+-- two sends of one id are one send
+pub one_send : (sends : List SentUpdate) (z o : SentUpdate) → AllSentOnce sends → In z sends → In o sends → id_of z ≡ id_of o → z ≡ o
+one_send [] z o once i j same = absurd i
+one_send (x ∷ older) z o once (inl e) (inl f) same = e ∙ sym f
+one_send (x ∷ older) z o once (inl e) (inr j) same = absurd (of_each (λ (v : SentUpdate). id_of v ≢ id_of x) older o once.0 j (sym same ∙ ap id_of e))
+one_send (x ∷ older) z o once (inr i) (inl f) same = absurd (of_each (λ (v : SentUpdate). id_of v ≢ id_of x) older z once.0 i (same ∙ ap id_of f))
+one_send (x ∷ older) z o once (inr i) (inr j) same = one_send older z o once.1 i j same
+
+-- an update with the entry that another one of its id has
+joined_keeps : (sends : List SentUpdate) (e : Entry) (k : Kept) → AllSentOnce sends → EntryIsOfSend sends e → IsOfSend sends k → k.entry.id ≡ e.id → IsOfSend sends (record k { entry = e })
+joined_keeps sends e k once of_entry of_kept same =
+    let z = of_entry.0 in
+    let o = of_kept.0 in
+    let ids : id_of o ≡ id_of z = ap (λ (u : Kept). u.entry.id) of_kept.2 ∙ same ∙ sym (ap (λ (f : Entry). f.id) of_entry.2) in
+    let one : o ≡ z = one_send sends o z once of_kept.1 of_entry.1 ids in
+    let entry : record (k.entry) { late = false } ≡ record e { late = false } = sym (ap (λ (u : Kept). u.entry) of_kept.2) ∙ ap (λ (v : SentUpdate). v.sending.update.entry) one ∙ of_entry.2 in
+    (o, of_kept.1, of_kept.2 ∙ ap (λ (f : Entry). record k { entry = f; early = false }) entry)
+
+-- ---- updates that are found
+
+-- what holds of whatever is found for an item holds of all that is found
+all_found : {X Y : Type 0} (P : Y → Type 0) (f : X → Option Y) (xs : List X) → ((x : X) (y : Y) → In x xs → f x ≡ Some y → P y) → AllByRecursion P (filter_map f xs)
+all_found P f [] each = tt
+all_found {X} {Y} P f (x ∷ xs) each = go (f x) refl (all_found P f xs (λ z y i. each z y (inr i)))
+  where
+    go : (o : Option Y) → f x ≡ o → AllByRecursion P (filter_map f xs) → AllByRecursion P (cons_option o (filter_map f xs))
+    go None is rest = rest
+    go (Some y) is rest = (each x y (inl refl) is, rest)
+
+-- an entry gets the payload of its own send
+entry_keeps : (sends : List SentUpdate) (payloads : List Kept) (e : Entry) (u : Kept) → AllSentOnce sends → AllByRecursion (IsOfSend sends) payloads
+    → EntryIsOfSend sends e → entry_joined payloads e ≡ Some u → IsOfSend sends u
+entry_keeps sends payloads e u once all of_entry joined = go (find_update e.id payloads) refl joined
+  where
+    go : (o : Option Kept) → find_update e.id payloads ≡ o → option_map (λ (k : Kept). record k { entry = e }) o ≡ Some u → IsOfSend sends u
+    go None is f = absurd (cc)
+    go (Some k) is f =
+        let found = found_in (is_named e.id) payloads k is in
+        subst (IsOfSend sends) (same_Some (record k { entry = e }) u f)
+        (joined_keeps sends e k once of_entry (of_each (IsOfSend sends) payloads k all found.0) (same_id_of k.entry.id e.id found.1))
+
+-- what a held decision keeps is of what was there
+pub payloads_keep : (sends : List SentUpdate) (ids : List UpdateId) (payloads : List Kept) → AllByRecursion (IsOfSend sends) payloads → AllByRecursion (IsOfSend sends) (payloads_for ids payloads)
+payloads_keep sends ids payloads all = all_found (IsOfSend sends) (λ (id : UpdateId). find_update id payloads) (each_once ids)
+    (λ id u i is. of_each (IsOfSend sends) payloads u all (found_in (is_named id) payloads u is).0)
+
+-- ---- what waits
+
+-- some of them
+filtered_keep : (sends : List SentUpdate) (test : Kept → Bool) (updates : List Kept) → AllByRecursion (IsOfSend sends) updates → AllByRecursion (IsOfSend sends) (filter test updates)
+filtered_keep sends test updates all = each_from (IsOfSend sends) (filter test updates) (λ u i. of_each (IsOfSend sends) updates u all (in_filtered test updates u i))
+
+-- one more that is pending
+pub put_keeps : (sends : List SentUpdate) (k : Kept) (w : Waiting) → IsOfSend sends k → AllByRecursion (IsOfSend sends) (payloads_of w)
+    → AllByRecursion (IsOfSend sends) (payloads_of (record w { pending = with_pending k w.pending }))
+put_keeps sends k w new all =
+    let parts = all_parted (IsOfSend sends) w.pending (held_payloads w.held) all in
+    all_joined (IsOfSend sends) (with_pending k w.pending) (held_payloads w.held)
+    (all_joined (IsOfSend sends) (filter (λ (other : Kept). waits_before other k) w.pending) (k ∷ filter (λ (other : Kept). not (waits_before other k)) w.pending)
+    (filtered_keep sends (λ (other : Kept). waits_before other k) w.pending parts.0)
+    (new, filtered_keep sends (λ (other : Kept). not (waits_before other k)) w.pending parts.0))
+    parts.1
+
+-- one more that is kept with the held decision
+pub filled_keeps : (sends : List SentUpdate) (k : Kept) (w : Waiting) → IsOfSend sends k → AllByRecursion (IsOfSend sends) (payloads_of w)
+    → AllByRecursion (IsOfSend sends) (payloads_of (record w { held = option_map (with_payload k) w.held }))
+filled_keeps sends k w new all =
+    let parts = all_parted (IsOfSend sends) w.pending (held_payloads w.held) all in
+    all_joined (IsOfSend sends) w.pending (held_payloads (option_map (with_payload k) w.held)) parts.0 (go w.held parts.1)
+  where
+    go : (o : Option Held) → AllByRecursion (IsOfSend sends) (held_payloads o) → AllByRecursion (IsOfSend sends) (held_payloads (option_map (with_payload k) o))
+    go None rest = tt
+    go (Some h) rest = all_push (IsOfSend sends) h.payloads k rest new
+
+-- nothing is held any more
+pub released_keeps : (sends : List SentUpdate) (w : Waiting) → AllByRecursion (IsOfSend sends) (payloads_of w) → AllByRecursion (IsOfSend sends) (payloads_of (released w))
+released_keeps sends w all = all_joined (IsOfSend sends) w.pending [] (all_parted (IsOfSend sends) w.pending (held_payloads w.held) all).0 tt
+
+-- ---- a decision is entered
+
+-- what it lets go, and what doesn't stay pending, is only less
+let_go_keeps : (sends : List SentUpdate) (d : Decision) (w : Waiting) → AllByRecursion (IsOfSend sends) (payloads_of w) → AllByRecursion (IsOfSend sends) (payloads_of (let_go_below d w))
+let_go_keeps sends d w all = go (is_overtaken d w.held)
+  where
+    go : (over : Bool) → AllByRecursion (IsOfSend sends) (payloads_of (cond over (released w) w))
+    go true = released_keeps sends w all
+    go false = all
+
+settled_keeps : (sends : List SentUpdate) (d : Decision) (w : Waiting) → AllByRecursion (IsOfSend sends) (payloads_of w) → AllByRecursion (IsOfSend sends) (payloads_of (settled_by d w))
+settled_keeps sends d w all =
+    let parts = all_parted (IsOfSend sends) w.pending (held_payloads w.held) all in
+    all_joined (IsOfSend sends) (settled_by d w).pending (held_payloads w.held) (filtered_keep sends _ w.pending parts.0) parts.1
+
+-- A process that enters a decision whose window keeps what its sends gave keeps it too.
+pub entered_keeps : (sends : List SentUpdate) (d : Decision) (p : Process) → AllSentOnce sends → AllByRecursion (EntryIsOfSend sends) d.window.items → ProcessKeeps sends p → ProcessKeeps sends (entered d p)
+entered_keeps sends d p once window k = record {
+  list = all_joined (IsOfSend sends) p.log.entries (filter_map (entry_joined (payloads_of p.waiting)) (needed p.log d)) k.list
+      (all_found (IsOfSend sends) (entry_joined (payloads_of p.waiting)) (needed p.log d) (λ e u i joined.
+      entry_keeps sends (payloads_of p.waiting) e u once k.waiting (of_each (EntryIsOfSend sends) d.window.items e window (in_drop _ d.window.items e i)) joined));
+  waiting = let_go_keeps sends d (settled_by d p.waiting) (settled_keeps sends d p.waiting k.waiting);
+}
+
+-- ---- makes
+
+-- the list of a decision that was made
+pub list_keeps : (sends : List SentUpdate) (makes : List Make) (o : Option Decision) → AllByRecursion (MakeKeeps sends) makes → AllByRecursion (IsOfSend sends) (list_of makes o)
+list_keeps sends makes None all = tt
+list_keeps sends makes (Some d) all = go (find is_made makes) refl
+  where
+    is_made : Make → Bool
+    is_made m = (m.making.decision.group == d.group) && (m.making.decision.turn == d.turn)
+
+    go : (o : Option Make) → find is_made makes ≡ o → AllByRecursion (IsOfSend sends) (option_map_or (λ (m : Make). m.log) o [])
+    go None is = tt
+    go (Some m) is = (of_each (MakeKeeps sends) makes m all (found_in is_made makes m is).0).list
+
+-- its window
+pub window_keeps : (sends : List SentUpdate) (makes : List Make) (d : Decision) → AllByRecursion (MakeKeeps sends) makes → WasMade makes d → AllByRecursion (EntryIsOfSend sends) d.window.items
+window_keeps sends makes d all was = subst (λ (z : Decision). AllByRecursion (EntryIsOfSend sends) z.window.items) was.2 (of_each (MakeKeeps sends) makes was.0 all was.1).window
+
+-- and that of one that may be missing
+pub any_window_keeps : (sends : List SentUpdate) (makes : List Make) (o : Option Decision) → AllByRecursion (MakeKeeps sends) makes → WasMadeIfAny makes o → AllByRecursion (EntryIsOfSend sends) (or_none o).window.items
+any_window_keeps sends makes None all was = tt
+any_window_keeps sends makes (Some d) all was = window_keeps sends makes d all was
+
+-- and the end of a window
+pub cut_keeps : (sends : List SentUpdate) (n : ℕ) (es : List Entry) → AllByRecursion (EntryIsOfSend sends) es → AllByRecursion (EntryIsOfSend sends) (drop n es)
+cut_keeps sends n es all = each_from (EntryIsOfSend sends) (drop n es) (λ e i. of_each (EntryIsOfSend sends) es e all (in_drop n es e i))
+
+-- ---- what is added
+
+-- to stand in a list means the same there
+-- an update that is added is, as it was sent, a pending one
+pub added_keep : (sends : List SentUpdate) (pending updates : List Kept) → AllByRecursion (IsOfSend sends) pending → AllByRecursion (IsAddedFrom pending) updates → AllByRecursion (IsOfSend sends) updates
+added_keep sends pending updates all come = each_weaker (IsAddedFrom pending) (IsOfSend sends) updates
+    (λ u from. subst (WasSent sends) (sym from.same) (of_each (IsOfSend sends) pending from.update all from.waits)) come
+
+-- and so are their entries
+pub entries_keep : (sends : List SentUpdate) (updates : List Kept) → AllByRecursion (IsOfSend sends) updates → AllByRecursion (EntryIsOfSend sends) (map (λ (k : Kept). k.entry) updates)
+entries_keep sends updates all = all_mapped (EntryIsOfSend sends) (λ (k : Kept). k.entry) updates
+    (each_weaker (IsOfSend sends) (λ (k : Kept). EntryIsOfSend sends k.entry) updates (λ u k. (k.0, k.1, ap (λ (v : Kept). v.entry) k.2)) all)

@@ -32,6 +32,9 @@ older_is_not g t g' t' e = grind (arith, nat_tests)
 pub not_older_group : (g t g' t' : ℕ) → IsNotOlder g t g' t' → g' ≤ g
 not_older_group g t g' t' e = grind (arith, nat_tests)
 
+pub not_older_turn : (g t g' t' : ℕ) → IsNotOlder g t g' t' → g' ≡ g → t' ≤ t
+not_older_turn g t g' t' old same = grind (arith, nat_tests)
+
 pub not_older_by_group : (g t g' t' : ℕ) → g' < g → IsNotOlder g t g' t'
 not_older_by_group g t g' t' low = grind (arith, nat_tests)
 

@@ -1,14 +1,11 @@
 -- Each part of a step is a row of effects, and so is a step.
-use Rattle.std.proofs.Common.{◌≡◌, refl, sym, ap, subst, ◌∙◌, inl, inr, ◌⊎◌, ℕ, zero, suc, ◌-◌, ◌<◌, Bool, true, false, cond, not, ◌&&◌, ◌||◌, nat_eq, nat_lt, is_some, List, [], ◌∷◌, ◌++◌, map, length, drop, find, Option, Some, None, Result, Ok, Err, arith}
-use Rattle.std.specs.Prelude.{unwrap_or}
+use Rattle.std.proofs.Common.{◌≡◌, refl, sym, ap, subst, ◌∙◌, inl, ℕ, ◌<◌, Bool, true, false, cond, not, ◌&&◌, ◌||◌, nat_eq, nat_lt, List, [], ◌∷◌, ◌++◌, map, Option, Some, None, Result, Ok, Err, arith}
 use Rattle.std.specs.List.{AllByRecursion}
 use Rattle.std.specs.Option.{option_map}
 use Rattle.std.proofs.lemmas.Bool.Decides.{nat_tests}
 use Rattle.std.proofs.lemmas.List.{map-append, append_assoc, append-nil}
-use Rattle.tw_num.specs.Rate.{Rate, Timely, Late, Unrated}
 use Rattle.tw_types.specs.declared.answer.Reason.{Reason}
 use Rattle.tw_types.specs.declared.answer.Reason.TheVariants as reasons
-use Rattle.tw_types.specs.declared.ballot.Ballot.{Ballot}
 use Rattle.tw_types.specs.declared.datagram.Head.{Head}
 use Rattle.tw_types.specs.declared.datagram.Why.{Why}
 use Rattle.tw_types.specs.declared.datagram.Body.{Body}
@@ -17,39 +14,31 @@ use Rattle.tw_types.specs.declared.datagram.Datagram.{Datagram}
 use Rattle.tw_types.specs.declared.message.UpdateId.{UpdateId}
 use Rattle.tw_types.specs.declared.message.Decision.{Decision}
 use Rattle.tw_types.specs.declared.message.Kept.{Kept}
-use Rattle.tw_types.specs.declared.message.Seat.{Seat}
 use Rattle.tw_types.specs.declared.message.Order.{Order}
 use Rattle.tw_types.specs.declared.message.Atom.{Atom}
 use Rattle.tw_types.specs.declared.datagram.Want.{Want}
-use Rattle.tw_types.specs.declared.message.Member.{Member}
-use Rattle.tw_types.specs.declared.step.Step.{Step}
-use Rattle.tw_types.specs.Refusals.{Refusal, first_refusal}
+use Rattle.tw_types.specs.Refusals.{first_refusal}
 use Rattle.tw_types.specs.Votes.{Promise, Making}
-use Rattle.tw_types.specs.Reports.{is_by_informed, kind_of}
-use Rattle.tw_types.specs.Beliefs.{Belief, Informed, Blank, Log, is_informed, last_of, view_decision}
-use Rattle.tw_types.specs.Ballots.{wants, is_over}
+use Rattle.tw_types.specs.Beliefs.{is_informed, view_decision}
+use Rattle.tw_types.specs.Ballots.{wants}
 use Rattle.tw_types.specs.Decisions.{or_none, is_older, is_same_member, has_seat}
-use Rattle.tw_types.specs.Elections.{why_begun, own_promise}
-use Rattle.tw_types.specs.Waiting.{Held, payloads_of, Putting, Filled, Stored, Known, Stranger, OutOfRange, putting, known_if_own}
-use Rattle.tw_types.specs.Flag.{is_up}
-use Rattle.tw_types.specs.Logs.{kept_from, kept_entries}
-use Rattle.tw_types.specs.Sends.{Sending, SendRefusal, first_send_refusal, awaited_seq, update_of}
-use Rattle.tw_types.specs.Updates.{is_named, sender}
-use Rattle.tw_types.proofs.Up.{Backing, backing}
-use Rattle.tw_types.specs.Groups.{NoGroup, group_made, group_making, first_decision, objections, first_objection}
+use Rattle.tw_types.specs.Elections.{why_begun, own_promise, is_willing}
+use Rattle.tw_types.specs.Waiting.{Held, payloads_of, Putting, Filled, Stored, putting}
+use Rattle.tw_types.specs.Sends.{Sending}
+use Rattle.tw_types.specs.Updates.{sender}
+use Rattle.tw_types.specs.Groups.{group_making}
 use Rattle.tw_types.specs.Turns.{is_turn}
 use Rattle.tw_types.specs.Promises.{is_quarantined, is_in_window}
 use Rattle.tw_types.specs.Process.{Process, Purpose, ToTake, ToGroup, Hold}
 use Rattle.tw_machine.specs.Dispatches.{sent_at}
-use Rattle.tw_machine.specs.History.{Promised, SentUpdate, promise_item, make_item, send_item, promises_on, makes_on, sends_on}
-use Rattle.tw_machine.specs.History as items
+use Rattle.tw_machine.specs.History.{Promised, promise_item, make_item, send_item, promises_on}
 use Rattle.tw_machine.specs.Run.{Run, Ruled, done, dropped, with_sends}
 use Rattle.tw_machine.specs.Sending.{datagram_to, others, sent_to, sent_to_others}
-use Rattle.tw_machine.specs.Standing.{member_of, last_decision, report_by, promise_by}
+use Rattle.tw_machine.specs.Standing.{member_of, last_decision, is_ready, report_by, promise_by}
 use Rattle.tw_machine.specs.Control.{rate_of, timely_reading, if_timely}
 use Rattle.tw_machine.specs.Entering.{entered, decision_entered, held_for, decision_held, enter_decision}
-use Rattle.tw_machine.specs.Updating.{is_stale, held_let_go, use_if_whole, update_kept, update_put, received_as, take_update, held_update, answer_ask}
-use Rattle.tw_machine.specs.Proposing.{own_seat, own_seq, refusals, own_update, seq_given, update_sent, propose}
+use Rattle.tw_machine.specs.Updating.{is_stale, held_let_go, use_if_whole, update_kept, update_put, received_as, take_update, answer_ask}
+use Rattle.tw_machine.specs.Proposing.{own_update, seq_given, update_sent, propose}
 use Rattle.tw_machine.specs.Taking.{decision_tests, take_decision}
 use Rattle.tw_machine.specs.Electing.{promised, answer_tests, election_answered, answer_election, ballot_dropped, has_spent_ballot, drop_ballot, holds_election, election_begun, begin_election}
 use Rattle.tw_machine.specs.Deciding.{supporting, making_kept, decision_made, has_turn, next_made, turn_taken, take_turn}
@@ -63,80 +52,7 @@ use Rattle.tw_machine.proofs.Tables.{all_mapped, all_of, equal_numbers}
 use Rattle.tw_machine.proofs.Ends.{by_entering, by_group, by_asking, by_using, by_kept, by_putting, by_answering, by_proposing, by_event}
 use Rattle.safety_laws.specs.Effects.{Written, State, Here, state_of, NotBelow, WasSent, Origin, ByMail, ByItself, Again, First, Says, IsToldBy, Source, Comes, WasHeld, Waits, Stays, Puts, Fills, Goes, ForTaking, ForGroup, Proposes, Numbers, SendsNone, SendsOne, BallotReason, MakeReason, Change, Changes}
 use Rattle.tw_types.specs.Items.{In}
-use Rattle.safety_laws.proofs.Lists.{of_append, in_first, in_last, in_drop, in_either, found_in}
-
--- one item more, at the end of what a step gave, stands first
-pub promise_first : (life : ℕ) (s : Step) (given : Promise) (ps : List Promise) (older : List Promised) → promises_on life s (ps ++ given ∷ []) older ≡ promise_item life s given ∷ promises_on life s ps older
-promise_first life s given [] older = refl
-promise_first life s given (p ∷ ps) older = promise_first life s given ps (promise_item life s p ∷ older)
-
-pub make_first : (member : Member) (life : ℕ) (s : Step) (making : Making) (ms : List Making) (older : List items.Make) → makes_on member life s (ms ++ making ∷ []) older ≡ make_item member life s (makes_on member life s ms older) making ∷ makes_on member life s ms older
-make_first member life s making [] older = refl
-make_first member life s making (m ∷ ms) older = make_first member life s making ms (make_item member life s older m ∷ older)
-
-pub send_first : (member : Member) (life : ℕ) (s : Step) (sending : Sending) (zs : List Sending) (older : List SentUpdate) → sends_on member life s (zs ++ sending ∷ []) older ≡ send_item member life s sending ∷ sends_on member life s zs older
-send_first member life s sending [] older = refl
-send_first member life s sending (z ∷ zs) older = send_first member life s sending zs (send_item member life s z ∷ older)
-
-pub same_greatest : (o : Option ℕ) → NotBelow o o
-same_greatest None = tt
-same_greatest (Some g) = omega arith
-
-pub greatest_grows : (a b c : Option ℕ) → NotBelow a b → NotBelow b c → NotBelow a c
-greatest_grows None b c low high = tt
-greatest_grows (Some x) None c low high = absurd low
-greatest_grows (Some x) (Some y) None low high = absurd high
-greatest_grows (Some x) (Some y) (Some z) low high = omega arith
-
--- tests that all pass
-pub none_present : (rs : List Refusal) → first_refusal rs ≡ None → AllByRecursion (λ (r : Refusal). r.present ≡ false) rs
-none_present [] none = tt
-none_present (r ∷ rs) none = go r.present refl none (none_present rs)
-  where
-    go : (b : Bool) → r.present ≡ b → cond b (Some r.reason) (first_refusal rs) ≡ None → (first_refusal rs ≡ None → AllByRecursion (λ (r : Refusal). r.present ≡ false) rs) → (r.present ≡ false) × AllByRecursion (λ (r : Refusal). r.present ≡ false) rs
-    go true e f rest = absurd (cc)
-    go false e f rest = (e, rest f)
-
-none_refused : (rs : List SendRefusal) → first_send_refusal rs ≡ None → AllByRecursion (λ (r : SendRefusal). r.present ≡ false) rs
-none_refused [] none = tt
-none_refused (r ∷ rs) none = go r.present refl none (none_refused rs)
-  where
-    go : (b : Bool) → r.present ≡ b → cond b (Some r.why) (first_send_refusal rs) ≡ None → (first_send_refusal rs ≡ None → AllByRecursion (λ (r : SendRefusal). r.present ≡ false) rs) → (r.present ≡ false) × AllByRecursion (λ (r : SendRefusal). r.present ≡ false) rs
-    go true e f rest = absurd (cc)
-    go false e f rest = (e, rest f)
-
-both_true : (a b : Bool) → (not a || not b) ≡ false → (a ≡ true) × (b ≡ true)
-both_true true true e = (refl, refl)
-both_true true false e = absurd (cc)
-both_true false b e = absurd (cc)
-
-not_false : (b : Bool) → not b ≡ false → b ≡ true
-not_false true e = refl
-not_false false e = absurd (cc)
-
--- a timely datagram is used at the reading
-timely_at : (rate : Rate) (reading : Option ℕ) (t : ℕ) → timely_reading rate reading ≡ Ok t → reading ≡ Some t
-timely_at Unrated reading t e = absurd (cc)
-timely_at (Late bound) reading t e = absurd (cc)
-timely_at (Timely bound) None t e = absurd (cc)
-timely_at (Timely bound) (Some u) t e = cc
-
--- an update that was sent stays among those that were
-still_sent : (here : Here) (x y : State) (k : Kept) → Change here x y → WasSent x.written.sends k → WasSent y.written.sends k
-still_sent here x y k (Change.Keep c) sent = go c.numbers
-  where
-    go : Numbers here x y → WasSent y.written.sends k
-    go (SendsNone next same) = subst (λ zs. WasSent zs k) (sym same) sent
-    go (SendsOne sending may next newest) = subst (λ zs. WasSent zs k) (sym newest) (sent.0, inr sent.1, sent.2)
-still_sent here x y k (Change.Give c) sent = rw c.written sent
-still_sent here x y k (Change.Hold c) sent = rw c.written sent
-still_sent here x y k (Change.Take c) sent = rw c.written sent
-still_sent here x y k (Change.Make c) sent = rw c.written sent
-still_sent here x y k (Change.Raise c) sent = rw c.written sent
-
-still_sent_all : (here : Here) (x y : State) (k : Kept) → Changes here x y → WasSent x.written.sends k → WasSent y.written.sends k
-still_sent_all here x y k Changes.Done sent = sent
-still_sent_all here x y k (Changes.Then {y = m} rest last) sent = still_sent here m y k last (still_sent_all here x m k rest sent)
+use Rattle.safety_laws.proofs.Given.{may_propose, IsPromised, drop_leaves_promised, turn_leaves_promised, group_is, promise_first, make_first, send_first, same_greatest, none_present, not_false, timely_at, still_sent_all, put_received, had_update, informed_by}
 
 -- ---- in one step, after what was written down before it
 
@@ -238,6 +154,7 @@ module _ (here : Here) (before : Written) where
 
   record MayPromise (given : Promise) (t : ℕ) (r : Run) : Type 0 where
     reading : here.now.reading ≡ Some t
+    able : (is_informed r.process.belief || is_ready r.process) ≡ true
     not_quarantined : is_quarantined here.team r.process.identity here.now.h ≡ false
     in_window : is_in_window here.team given.number t ≡ true
     above : r.process.vote.promised < given.number
@@ -251,6 +168,7 @@ module _ (here : Here) (before : Written) where
         t = t;
         reading = may.reading;
         read = read t may.reading;
+        able = may.able;
         not_quarantined = may.not_quarantined;
         in_window = may.in_window;
         above = may.above;
@@ -318,56 +236,11 @@ module _ (here : Here) (before : Written) where
       go None is = nothing r read
       go (Some last) is = by_test last is (has_turn here.team t r.process) refl
 
-  -- a ballot that is held is of the promised number
-  abbrev IsPromised : Run → Type 0
-  IsPromised r = (ballot : Ballot) → r.process.ballot ≡ Some ballot → r.process.vote.promised ≡ ballot.number
-
-  drop_leaves_promised : (t : ℕ) (r : Run) → IsPromised (drop_ballot here.team t r)
-  drop_leaves_promised t r = go (has_spent_ballot here.team t r.process) refl
-    where
-      left : (ballot : Ballot) (o : Option Ballot) → o ≡ Some ballot → (elim o as (λ o. Bool) [ None ↦ false | Some ballot ↦ is_over here.team r.process.vote.promised (last_decision r.process) t ballot ]) ≡ false → r.process.vote.promised ≡ ballot.number
-      left ballot None is e = absurd (cc)
-      left ballot (Some b) is e = let same : b ≡ ballot = cc in subst (λ (x : Ballot). r.process.vote.promised ≡ x.number) same (grind (arith, nat_tests))
-
-      go : (test : Bool) → has_spent_ballot here.team t r.process ≡ test → IsPromised (cond test (ballot_dropped r) r)
-      go true e ballot is = absurd (cc)
-      go false e ballot is = left ballot r.process.ballot is e
-
-  turn_leaves_promised : (t : ℕ) (r : Run) → IsPromised r → IsPromised (take_turn here.team here.now t r)
-  turn_leaves_promised t r promised = go (last_decision r.process)
-    where
-      by_test : (last : Decision) (test : Bool) → IsPromised (cond test (turn_taken here.team here.now last t r) r)
-      by_test last true = promised
-      by_test last false = promised
-
-      go : (o : Option Decision) → IsPromised (elim o as (λ o. Run) [ None ↦ r | Some last ↦ cond (has_turn here.team t r.process) (turn_taken here.team here.now last t r) r ])
-      go None = promised
-      go (Some last) = by_test last (has_turn here.team t r.process)
-
-  -- a group that is made is of its ballot's number, by its maker at that moment
-  record IsGroup (ballot : Ballot) (t : ℕ) (d : Decision) : Type 0 where
-    made : d.made ≡ t
-    group : d.group ≡ ballot.number
-
-  group_is : (ballot : Ballot) (log : Log) (payloads : List Kept) (me : Member) (t : ℕ) (d : Decision) → group_made here.team ballot log payloads me t ≡ Ok d → IsGroup ballot t d
-  group_is ballot log payloads me t d e = go (first_objection (objections here.team ballot log payloads me)) e
-    where
-      go : (o : Option NoGroup) → (elim o as (λ o. Result Decision NoGroup) [ None ↦ Ok (first_decision here.team ballot me t) | Some why ↦ Err why ]) ≡ Ok d → IsGroup ballot t d
-      go None e = let same : first_decision here.team ballot me t ≡ d = cc in subst (IsGroup ballot t) same (record { made = refl; group = refl })
-      go (Some why) e = absurd (cc)
-
   group_row : (t : ℕ) (r : Run) → IsRead r → here.now.reading ≡ Some t → IsPromised r → Row r (make_group here.team here.now t r)
   group_row t r read reading promised = by_group here.team here.now t r (Row r) (nothing r read)
-      (λ ballot d is full e. let new = group_is ballot r.process.log (payloads_of r.process.waiting) (member_of r.process.identity) t d e in
+      (λ ballot d is full e. let new = group_is here ballot r.process.log (payloads_of r.process.waiting) (member_of r.process.identity) t d e in
       made_row (group_making ballot d) t r (ballot_dropped r) read reading new.made (new.group ∙ sym (promised ballot is)) (MakeReason.Group ballot is full e refl refl) refl refl)
       (λ ballot best id is e. held_row ToGroup best ballot.best_from id r (ForGroup ballot best ballot.best_from is e (sym (promised ballot is)) refl refl) read)
-
-  informed_by : (r : Run) → is_by_informed (report_by r.process 0) ≡ true → is_informed r.process.belief ≡ true
-  informed_by r e = go r.process.belief e
-    where
-      go : (b : Belief) → is_by_informed (record (report_by r.process 0) { kind = kind_of b }) ≡ true → is_informed b ≡ true
-      go (Informed last) e = refl
-      go (Blank followed) e = absurd (cc)
 
   election_row : (t : ℕ) (r : Run) → IsRead r → here.now.reading ≡ Some t → Row r (begin_election here.team here.now t r)
   election_row t r read reading = go (holds_election here.team here.now t r.process) refl
@@ -382,7 +255,7 @@ module _ (here : Here) (before : Written) where
       held e =
           let given : Run = promised own r in
           let ballot : Run = record given { process = record (given.process) { ballot = Some (record { number = own.number; ring = None; reports = record { items = own.report ∷ [] }; best = own.decision; best_from = r.process.identity.who }) } } in
-          let may : MayPromise own t r = record { reading = reading; not_quarantined = grind (arith, nat_tests); in_window = grind (arith, nat_tests); above = grind (arith, nat_tests); report = refl; decision = refl } in
+          let may : MayPromise own t r = record { reading = reading; able = rw (informed_by r (grind (arith, nat_tests))) refl; not_quarantined = grind (arith, nat_tests); in_window = grind (arith, nat_tests); above = grind (arith, nat_tests); report = refl; decision = refl } in
           let first : Row r given = promise_row own t r read may in
           after r given (election_begun here.team here.now why own r) first
           (after given _ (election_begun here.team here.now why own r)
@@ -405,7 +278,7 @@ module _ (here : Here) (before : Written) where
       let c : Run = make_group here.team here.now t b in
       let first : Row r a = drop_row t r read in
       let second : Row a b = turn_row t a first.read reading in
-      let third : Row b c = group_row t b second.read reading (turn_leaves_promised t a (drop_leaves_promised t r)) in
+      let third : Row b c = group_row t b second.read reading (turn_leaves_promised here t a (drop_leaves_promised here t r)) in
       let fourth : Row c (begin_election here.team here.now t c) = election_row t c third.read reading in
       after r c (begin_election here.team here.now t c) (after r b c (after r a b first second) third) fourth
 
@@ -501,24 +374,10 @@ module _ (here : Here) (before : Written) where
   put_row : (k : Kept) (r : Run) → Origin here (at r) k → IsRead r → Row r (update_put here.now (putting (view_decision r.process.belief) k r.process.waiting) k r)
   put_row k r origin read = by_kept here.now (putting (view_decision r.process.belief) k r.process.waiting) k r (Row r) (nothing r read) (λ e. stored_row k r origin e read) (λ e. filled_row k r origin e read)
 
-  -- one that is received is put as any other, but for the process's own
-  put_received : (own : Bool) (p : Putting) → (known_if_own own p ≡ Stored → p ≡ Stored) × (known_if_own own p ≡ Filled → p ≡ Filled)
-  put_received own Filled = (λ e. e, λ e. e)
-  put_received true Stored = (λ e. absurd (cc), λ e. absurd (cc))
-  put_received false Stored = (λ e. e, λ e. e)
-  put_received own Known = (λ e. e, λ e. e)
-  put_received own Stranger = (λ e. e, λ e. e)
-  put_received true OutOfRange = (λ e. absurd (cc), λ e. absurd (cc))
-  put_received false OutOfRange = (λ e. e, λ e. e)
-
   update_row : (k : Kept) (r : Run) → Origin here (at r) k → IsRead r → Row r (take_update here.now k r).run
   update_row k r origin read =
       let put = put_received (is_same_member (sender k.entry.id) (member_of r.process.identity)) (putting (view_decision r.process.belief) k r.process.waiting) in
       by_putting here.now (received_as r.process k) k r (λ z. Row r z.run) (λ e. filled_row k r origin (put.1 e) read) (λ e. stored_row k r origin (put.0 e) read) (λ reason other. nothing r read)
-
-  -- what is asked for is in the list, or waits
-  had_update : (id : UpdateId) (p : Process) (k : Kept) → held_update id p ≡ Some k → In k (p.log.entries ++ payloads_of p.waiting)
-  had_update id p k is = in_either k (kept_entries p.log) p.log.entries (payloads_of p.waiting) (λ i. in_drop (kept_from p.log - p.log.base) p.log.entries k i) (found_in (is_named id) (kept_entries p.log ++ payloads_of p.waiting) k is).0
 
   question_row : (from : ℕ) (want : Want) (r : Run) → IsRead r → Row r (answer_ask here.now from want r).run
   question_row from want r read = by_answering here.now from want r (λ z. Row r z.run) (λ id k is. one_sent from _ r read (Again k (had_update id r.process k is) refl)) (nothing r read)
@@ -538,50 +397,9 @@ module _ (here : Here) (before : Written) where
       after r put (update_sent here.team here.now k r) (after r given put first second)
       (others_sent here.team.n (bodies.Update k) put second.read (First (still_sent_all here (at given) (at put) k second.changes known)))
 
-  may_propose : (order : Order) (atom : Atom) (payload : List ℕ) (r : Run) → first_send_refusal (refusals here.team here.now (length payload) r.process) ≡ None → IsRead r
-      → Proposes here (at r) (record { group = (or_none (last_decision r.process)).group; update = own_update here.now order atom payload r.process })
-  may_propose order atom payload r free read = go (own_seat r.process) refl
-    where
-      p : Process
-      p = r.process
-
-      all : AllByRecursion (λ (z : SendRefusal). z.present ≡ false) (refusals here.team here.now (length payload) p)
-      all = none_refused (refusals here.team here.now (length payload) p) free
-
-      up : is_up here.team p.vote p.belief here.now.reading ≡ true
-      up = (both_true (is_up here.team p.vote p.belief here.now.reading) (is_some (own_seat p)) all.1.0).0
-
-      has : is_some (own_seat p) ≡ true
-      has = (both_true (is_up here.team p.vote p.belief here.now.reading) (is_some (own_seat p)) all.1.0).1
-
-      by : Backing here.team p.belief here.now.reading
-      by = backing here.team p.vote p.belief here.now.reading up
-
-      go : (o : Option Seat) → own_seat p ≡ o → Proposes here (at r) (record { group = (or_none (last_decision p)).group; update = own_update here.now order atom payload p })
-      go None none = absurd (let no : false ≡ true = ap is_some (sym none) ∙ has in cc)
-      go (Some s) is =
-          let awaited : awaited_seq (own_seat p) ≡ s.next = ap awaited_seq is in
-          let last_is : last_decision p ≡ Some by.last = ap last_of by.is_last in
-          record {
-            t = by.now;
-            reading = by.is_now;
-            read = read by.now by.is_now;
-            up = subst (λ o. is_up here.team p.vote p.belief o ≡ true) by.is_now up;
-            last = by.last;
-            last_is = last_is;
-            seat = s;
-            seat_is = is;
-            near = let far = all.1.1.0 in grind (arith, nat_tests);
-            order = order;
-            atom = atom;
-            payload = payload;
-            group = ap (λ o. (or_none o).group) last_is;
-            update = ap (λ o. update_of (member_of p.identity) (own_seq p) (unwrap_or o 0) order atom payload) by.is_now;
-          }
-
   propose_row : (order : Order) (atom : Atom) (payload : List ℕ) (r : Run) → IsRead r → Row r (propose here.team here.now order atom payload r).run
   propose_row order atom payload r read = by_proposing here.team here.now order atom payload r (λ z. Row r z.run)
-      (λ free. sent_row (own_update here.now order atom payload r.process) r (may_propose order atom payload r free read) read) (λ why e. nothing r read)
+      (λ free. sent_row (own_update here.now order atom payload r.process) r (may_propose here before order atom payload r free read) read) (λ why e. nothing r read)
 
   answer_row : (from number : ℕ) (why : Why) (t : ℕ) (r : Run) → IsRead r → here.now.reading ≡ Some t → Row r (answer_election here.team here.now from number why t r).run
   answer_row from number why t r read reading = go (first_refusal (answer_tests here.team here.now from number why t r.process)) refl
@@ -589,11 +407,16 @@ module _ (here : Here) (before : Written) where
       given : Promise
       given = promise_by r.process number t
 
+      able_by : (able : Bool) → is_willing here.team (cond able (Some (report_by r.process t)) None) (last_decision r.process) why t ≡ true → able ≡ true
+      able_by true e = refl
+      able_by false e = absurd (cc)
+
       may : first_refusal (answer_tests here.team here.now from number why t r.process) ≡ None → MayPromise given t r
       may e =
           let all = none_present (answer_tests here.team here.now from number why t r.process) e in
           record {
             reading = reading;
+            able = able_by (is_informed r.process.belief || is_ready r.process) (not_false _ all.1.1.1.1.0);
             not_quarantined = all.0;
             in_window = not_false _ all.1.1.0;
             above = let low = all.1.1.1.0 in grind (arith, nat_tests);

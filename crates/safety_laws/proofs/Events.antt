@@ -20,7 +20,8 @@ use Rattle.tw_machine.specs.Hearing as hearing
 use Rattle.tw_machine.specs.Duties.{duties}
 use Rattle.tw_machine.specs.Step.{learnt_by, moment_of, read_by, event_rule, ruled_by, has_duties, ended_by, looked}
 use Rattle.safety_laws.specs.Effects.{Written, Here, state_of, NotBelow, Stays, SendsNone, Changes}
-use Rattle.safety_laws.proofs.Effects.{Row, after, still, same_greatest, own_row, duties_row}
+use Rattle.safety_laws.proofs.Effects.{Row, after, still, own_row, duties_row}
+use Rattle.safety_laws.proofs.Given.{same_greatest}
 
 -- the datagram that an event brings, where it isn't dropped before its kind's rule
 abbrev pub heard : Result (Option Datagram) Reason → Option Datagram

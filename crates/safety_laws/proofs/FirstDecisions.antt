@@ -33,7 +33,7 @@ unfolding IsDistinct
 are_distinct [] d = tt
 are_distinct (r ∷ rs) d = IsDistinct-cons nat_eq r.member.who (reporters rs) (all_map (λ y. nat_eq r.member.who y ≡ false) (λ (q : Report). q.member.who) rs (each_weaker (λ (q : Report). (r.member.who ≡ q.member.who) → ⊥) (λ (q : Report). nat_eq r.member.who q.member.who ≡ false) rs (λ q other. grind (arith, nat_tests)) d.0)) (are_distinct rs d.1)
 
-all_mapped_from : {X Y : Type 0} (P : Y → Type 0) (f : X → Y) (xs : List X) → AllByRecursion P (map f xs) → AllByRecursion (λ x. P (f x)) xs
+pub all_mapped_from : {X Y : Type 0} (P : Y → Type 0) (f : X → Y) (xs : List X) → AllByRecursion P (map f xs) → AllByRecursion (λ x. P (f x)) xs
 all_mapped_from P f [] all = tt
 all_mapped_from P f (x ∷ xs) all = (all.0, all_mapped_from P f xs all.1)
 
@@ -86,7 +86,7 @@ found_over h (k ∷ ks) r i = go (h k) refl i (found_over h ks r)
     go (Some x) e (inr j) rest = rest j
 
 -- who has a report among those of the range stands there
-over_found : (h : ℕ → Option Report) (r : Report) (who : ℕ) → h who ≡ Some r → (a k : ℕ) → a ≤ who → who < a + k → In r (filter_map h (range_with_len a k))
+pub over_found : (h : ℕ → Option Report) (r : Report) (who : ℕ) → h who ≡ Some r → (a k : ℕ) → a ≤ who → who < a + k → In r (filter_map h (range_with_len a k))
 over_found h r who e a zero low high = absurd (omega arith)
 over_found h r who e a (suc k) low high = go (nat_eq a who) refl (λ more. over_found h r who e (a + 1) k more (omega arith))
   where
@@ -164,7 +164,7 @@ record IsUnopposed (team : Team) (b : Ballot) (me : Member) : Type 0 where
   there : list_any (λ (r : Report). is_same_member r.member me) (consistent b) ≡ true
   many : team.n / 2 + 1 ≤ length (consistent b)
 
-none_present : (os : List Objection) → first_objection os ≡ None → AllByRecursion (λ (o : Objection). o.present ≡ false) os
+pub none_present : (os : List Objection) → first_objection os ≡ None → AllByRecursion (λ (o : Objection). o.present ≡ false) os
 none_present [] none = tt
 none_present (o ∷ os) none = go o.present refl none (none_present os)
   where
@@ -283,3 +283,11 @@ first_of_ballot team b log payloads me t d below distinct e = go (first_objectio
     go : (o : Option NoGroup) → first_objection (objections team b log payloads me) ≡ o → (elim o as (λ o. Result Decision NoGroup) [ None ↦ Ok (first_decision team b me t) | Some why ↦ Err why ]) ≡ Ok d → IsFirstOf team b me t d
     go None none e = let same : first_decision team b me t ≡ d = cc in subst (IsFirstOf team b me t) same (first_is team b me t below distinct (unopposed team b log payloads me none))
     go (Some why) none e = absurd (cc)
+
+-- a group that is made is the first decision of its ballot
+pub group_is_first : (team : Team) (ballot : Ballot) (log : Log) (payloads : List Kept) (me : Member) (t : ℕ) (d : Decision) → group_made team ballot log payloads me t ≡ Ok d → first_decision team ballot me t ≡ d
+group_is_first team ballot log payloads me t d e = go (first_objection (objections team ballot log payloads me)) e
+  where
+    go : (o : Option NoGroup) → (elim o as (λ o. Result Decision NoGroup) [ None ↦ Ok (first_decision team ballot me t) | Some why ↦ Err why ]) ≡ Ok d → first_decision team ballot me t ≡ d
+    go None e = cc
+    go (Some why) e = absurd (cc)

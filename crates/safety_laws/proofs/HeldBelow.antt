@@ -32,7 +32,7 @@ told_below makes z None tells positive = absurd (let none = tells.0 in omega ari
 told_below makes z (Some d) tells positive = let same = tells.2 in let low = tells.4 in omega arith
 
 -- the best one is of a lower group than the ballot
-best_below : (makes : List Make) (promises : List Promised) (ballot : Ballot) (best : Decision) → AllByRecursion (TellsDecision makes) promises
+pub best_below : (makes : List Make) (promises : List Promised) (ballot : Ballot) (best : Decision) → AllByRecursion (TellsDecision makes) promises
     → AllByRecursion (WasReported promises ballot.number) ballot.reports.items → IsBest ballot.reports.items ballot.best → ballot.best ≡ Some best → best.group < ballot.number
 best_below makes promises ballot best tells reported is_best is =
     let told = is_best.told best is in

@@ -1,5 +1,5 @@
 -- Each id keeps what its send gave: whatever a process keeps, tells or makes is of updates that were sent.
-use Rattle.std.proofs.Common.{◌≡◌, sym, ap, subst, ◌∙◌, ℕ, List, ◌∷◌, ◌++◌, map, Option, Some, None, Result, Ok, Err}
+use Rattle.std.proofs.Common.{◌≡◌, sym, ap, subst, ◌∙◌, ℕ, List, ◌∷◌, ◌++◌, map, Option, Some}
 use Rattle.std.specs.List.{AllByRecursion}
 use Rattle.tw_types.specs.declared.team.Team.{Team}
 use Rattle.tw_types.specs.declared.ballot.Ballot.{Ballot}
@@ -8,11 +8,10 @@ use Rattle.tw_types.specs.declared.datagram.Body.TheVariants as bodies
 use Rattle.tw_types.specs.declared.datagram.Datagram.{Datagram}
 use Rattle.tw_types.specs.declared.message.Kept.{Kept}
 use Rattle.tw_types.specs.declared.message.Decision.{Decision}
-use Rattle.tw_types.specs.declared.message.Member.{Member}
 use Rattle.tw_types.specs.declared.step.Step.{Step}
-use Rattle.tw_types.specs.Beliefs.{Log, log_length}
+use Rattle.tw_types.specs.Beliefs.{log_length}
 use Rattle.tw_types.specs.Decisions.{or_none}
-use Rattle.tw_types.specs.Groups.{NoGroup, objections, first_objection, first_decision, group_made}
+use Rattle.tw_types.specs.Groups.{first_decision}
 use Rattle.tw_types.specs.Process.{Process}
 use Rattle.tw_types.specs.Sends.{as_sent}
 use Rattle.tw_types.specs.Turns.{next_decision}
@@ -38,14 +37,7 @@ use Rattle.safety_laws.proofs.Lists.{of_each, each_weaker}
 use Rattle.safety_laws.proofs.Made.{source_made}
 use Rattle.safety_laws.proofs.MadeLists.{More, more_same, more_by, last_made}
 use Rattle.safety_laws.proofs.Stack.{Stepping, IsMailed, RulesOver, IsPartOf, part_holds, first_of}
-
--- a group that is made is the first decision of its ballot
-group_is_first : (team : Team) (ballot : Ballot) (log : Log) (payloads : List Kept) (me : Member) (t : ℕ) (d : Decision) → group_made team ballot log payloads me t ≡ Ok d → first_decision team ballot me t ≡ d
-group_is_first team ballot log payloads me t d e = go (first_objection (objections team ballot log payloads me)) e
-  where
-    go : (o : Option NoGroup) → (elim o as (λ o. Result Decision NoGroup) [ None ↦ Ok (first_decision team ballot me t) | Some why ↦ Err why ]) ≡ Ok d → first_decision team ballot me t ≡ d
-    go None e = cc
-    go (Some why) e = absurd (cc)
+use Rattle.safety_laws.proofs.FirstDecisions.{group_is_first}
 
 -- of what was sent an update is, as it was sent, one that was sent
 sent_is : (steps : List Step) (sent : List SentUpdate) (k : Kept) → AllByRecursion (IsOfSender steps) sent → WasSent sent k → IsOfSend sent k

@@ -7,6 +7,7 @@ pub mod ClockLaw
 pub mod DelayLaw
 pub mod SafeRows
 mod ClockWorked
+pub mod Given
 pub mod Effects
 pub mod Events
 pub mod Stack
@@ -41,6 +42,7 @@ pub mod Once
 pub mod Supports
 pub mod Precede
 pub mod Still
+pub mod Reported
 pub mod Counting
 pub mod Groups
 pub mod Quorums
@@ -56,5 +58,19 @@ pub mod Safe
 pub mod Under
 pub mod Numbers
 pub mod Supported
+pub mod WholeLists
+pub mod WholeNext
+pub mod Whole
+pub mod Prefixes
+pub mod BeginLists
+pub mod EndLists
+pub mod LowLists
+pub mod Begun
+pub mod Beginnings
+pub mod Acknowledged
+pub mod Silent
+pub mod ListsAt
+pub mod ListLaws
 mod Worked
 mod SendsWorked
+mod ListsWorked

@@ -1,6 +1,6 @@
 -- Lists of which each item is spoken of, and items that stand in one.
-use Rattle.std.proofs.Common.{◌≡◌, refl, sym, ap, subst, inl, inr, ◌⊎◌, ℕ, zero, suc, Bool, true, false, cond, List, [], ◌∷◌, ◌++◌, map, drop, filter, filter_map, find, Option, Some, None}
-use Rattle.std.specs.List.{AllByRecursion}
+use Rattle.std.proofs.Common.{◌≡◌, refl, sym, subst, inl, inr, ◌⊎◌, ℕ, zero, suc, Bool, true, false, cond, ◌||◌, List, [], ◌∷◌, ◌++◌, drop, filter, find, Some, None}
+use Rattle.std.specs.List.{AllByRecursion, list_any}
 use Rattle.tw_types.specs.Items.{In}
 
 -- what holds of each holds of one that stands there
@@ -73,3 +73,12 @@ found_in test (y ∷ xs) x e = go (test y) refl (found_in test xs x) e
     go : (b : Bool) → test y ≡ b → (find test xs ≡ Some x → In x xs × (test x ≡ true)) → cond b (Some y) (find test xs) ≡ Some x → In x (y ∷ xs) × (test x ≡ true)
     go true is rest f = let same : y ≡ x = cc in (inl (sym same), subst (λ z. test z ≡ true) same is)
     go false is rest f = let k = rest f in (inr k.0, k.1)
+
+-- where some item passes the test one is found
+pub any_found : {X : Type 0} (test : X → Bool) (xs : List X) → list_any test xs ≡ true → find test xs ≡ None → ⊥
+any_found test [] e f = absurd (cc)
+any_found test (x ∷ xs) e f = go (test x) e f (any_found test xs)
+  where
+    go : (b : Bool) → (b || list_any test xs) ≡ true → cond b (Some x) (find test xs) ≡ None → (list_any test xs ≡ true → find test xs ≡ None → ⊥) → ⊥
+    go true e f rest = absurd (cc)
+    go false e f rest = rest e f

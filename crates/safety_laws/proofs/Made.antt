@@ -48,14 +48,10 @@ use Rattle.safety_laws.proofs.FirstDecisions.{IsFirstOf, first_of_ballot, are_di
 use Rattle.safety_laws.proofs.Held.{may_take, HeldBelow, Left, Above, held_after, filled_same}
 use Rattle.safety_laws.proofs.Added.{entries_kept}
 use Rattle.safety_laws.proofs.Lists.{of_each, each_weaker}
-use Rattle.safety_laws.proofs.MadeLists.{More, more_same, more_by, if_any_more, tells_more, arise_more, under_more, ballot_more, maker_more, seat_same, seat_other_promise, seat_other_make, last_made, own_group}
+use Rattle.safety_laws.proofs.MadeLists.{owner_below, More, more_same, more_by, if_any_more, tells_more, arise_more, under_more, ballot_more, maker_more, seat_same, seat_other_promise, seat_other_make, last_made, own_group}
 use Rattle.safety_laws.proofs.NextDecisions.{seat_due, next_seat, after_in, in_changed, next_length, appended_length, same_supported, seat_stays}
 use Rattle.safety_laws.proofs.Stack.{Stepping, IsMailed}
 use Rattle.safety_laws.proofs.Turns.{all_positive}
-
--- an owner is one of the n
-owner_below : (n number who : ℕ) → 0 < n → owner n number ≡ who → who < n
-owner_below n number who positive is = grind arith
 
 module _ (team : Team) (past : List Step) (s : Step) (here : Here) (x y : State) (at : Stepping team past s here) (mailed : IsMailed here x.written) (change : Change here x y)
     (before : Holds (of_promises team) (s ∷ past) (world team past) s.who x) (after : Holds (of_promises team) (s ∷ past) (world team past) s.who y) (k : Holds (made team) (s ∷ past) (world team past) s.who x) where
@@ -210,6 +206,7 @@ module _ (team : Team) (past : List Step) (s : Step) (here : Here) (x y : State)
         majority = rw reports first.majority;
         best = rw (reports, best) b.best;
         before = rw best (subst (λ (o : Option Ballot). WasMadeIfAny x.written.makes (best_of o)) is k.own.keeps.best);
+        appended = ap (λ (m : Making). m.appended) same;
         lower = λ d e. rw first.group (lower b.best positive (best_told b.promised) d (sym best ∙ e));
         members = rw (reports, best) first.members;
         seats = first.seats;

@@ -1,5 +1,5 @@
 -- What was promised and made, as the lists grow; and whose promise a last decision's group is.
-use Rattle.std.proofs.Common.{◌≡◌, ◌≢◌, refl, sym, ap, subst, ◌∙◌, inr, ℕ, ◌≤◌, true, List, [], ◌∷◌, Option, Some, None, arith}
+use Rattle.std.proofs.Common.{◌≡◌, ◌≢◌, refl, sym, ap, subst, ◌∙◌, inr, ℕ, ◌≤◌, ◌<◌, true, List, [], ◌∷◌, Option, Some, None, arith}
 use Rattle.std.specs.List.{AllByRecursion}
 use Rattle.tw_types.specs.declared.team.Team.{Team}
 use Rattle.tw_types.specs.declared.ballot.Ballot.{Ballot}
@@ -11,6 +11,7 @@ use Rattle.tw_types.specs.declared.step.Step.{Step}
 use Rattle.tw_types.specs.Beliefs.{Belief, Informed, Blank, is_informed, last_of, view_decision}
 use Rattle.tw_types.specs.Decisions.{has_seat, is_seat_of}
 use Rattle.tw_types.specs.Process.{Process}
+use Rattle.tw_types.specs.Slots.{owner}
 use Rattle.tw_machine.specs.History.{Promised, Make, life}
 use Rattle.tw_machine.specs.Standing.{member_of, last_decision}
 use Rattle.safety_laws.specs.Effects.{Written}
@@ -22,6 +23,10 @@ use Rattle.safety_laws.proofs.FirstDecisions.{same_member_of}
 use Rattle.safety_laws.proofs.Lists.{of_each, each_weaker}
 use Rattle.safety_laws.proofs.NextDecisions.{any_in}
 use Rattle.safety_laws.proofs.Turns.{IsPromisedSeat, seats_promised}
+
+-- an owner is one of the n
+pub owner_below : (n number who : ℕ) → 0 < n → owner n number ≡ who → who < n
+owner_below n number who positive is = grind arith
 
 -- each that stands in the one list stands in the other
 abbrev pub More : {X : Type 0} → List X → List X → Type 0
@@ -60,6 +65,7 @@ comes_more team promises promises' older m more k = record {
   majority = k.majority;
   best = k.best;
   before = k.before;
+  appended = k.appended;
   lower = k.lower;
   members = k.members;
   seats = k.seats;
@@ -126,7 +132,7 @@ pub record OwnPromise (steps : List Step) (w : Written) (who : ℕ) (p : Process
   pub number : item.promise.number ≡ group
   pub below : group ≤ p.vote.promised
 
-viewed : (b : Belief) (d : Decision) → last_of b ≡ Some d → view_decision b ≡ Some d
+pub viewed : (b : Belief) (d : Decision) → last_of b ≡ Some d → view_decision b ≡ Some d
 viewed (Informed last) d e = e
 viewed (Blank followed) d e = absurd (cc)
 

@@ -20,8 +20,7 @@ use Rattle.tw_types.specs.Ballots.{wants}
 use Rattle.tw_types.specs.Elections.{why_begun, own_promise}
 use Rattle.tw_types.specs.Beliefs.{view_decision}
 use Rattle.tw_types.specs.Waiting.{payloads_of, Putting, Filled, putting}
-use Rattle.tw_types.specs.Groups.{group_making, next_making}
-use Rattle.tw_types.specs.Turns.{next_decision}
+use Rattle.tw_types.specs.Groups.{group_making}
 use Rattle.tw_types.specs.Process.{Process, ToGroup}
 use Rattle.tw_machine.specs.Event.{Event}
 use Rattle.tw_machine.specs.Run.{Run, Ruled, done, dropped}
@@ -33,7 +32,7 @@ use Rattle.tw_machine.specs.Updating.{use_if_whole, update_kept, update_put, rec
 use Rattle.tw_machine.specs.Proposing.{own_update, seq_given, update_sent, propose}
 use Rattle.tw_machine.specs.Taking.{take_decision}
 use Rattle.tw_machine.specs.Electing.{answer_tests, election_answered, answer_election, ballot_dropped, has_spent_ballot, drop_ballot, holds_election, election_begun, begin_election}
-use Rattle.tw_machine.specs.Deciding.{decision_made, has_turn, entries_to_add, turn_taken, take_turn, next_made}
+use Rattle.tw_machine.specs.Deciding.{decision_made, has_turn, turn_taken, take_turn, next_made}
 use Rattle.tw_machine.specs.Grouping.{promise_added, take_promise, make_group}
 use Rattle.tw_machine.specs.Beating.{is_due, beat_marked, is_repeated, repeat_decision, ask_again, beat_given, give_beat}
 use Rattle.tw_machine.specs.Rules.{kind_rule, rule}

@@ -59,12 +59,22 @@ fold_below_each start [] x i = absurd i
 fold_below_each start (y ∷ xs) x (inl e) = let rest = fold_below (min start y) xs in omega arith
 fold_below_each start (y ∷ xs) x (inr i) = fold_below_each (min start y) xs x i
 
-least_below : (xs : List ℕ) (x : ℕ) → In x xs → least xs ≤ x
+pub least_below : (xs : List ℕ) (x : ℕ) → In x xs → least xs ≤ x
 least_below [] x i = absurd i
 least_below (y ∷ xs) x (inl e) = let rest = fold_below y xs in omega arith
 least_below (y ∷ xs) x (inr i) = fold_below_each y xs x i
 
 -- ---- the length of its list
+
+-- what a support says stands among the acks
+pub told_ack : (seats : List Seat) (seat : Seat) (support : Support) → In seat seats → seat.support ≡ Some support → In support.ack (acks seats)
+told_ack [] seat support i e = absurd i
+told_ack (x ∷ seats) seat support (inl same) e = let there : x.support ≡ Some support = ap (λ (s : Seat). s.support) (sym same) ∙ e in rw there (inl refl)
+told_ack (x ∷ seats) seat support (inr i) e = more x.support (told_ack seats seat support i e)
+  where
+    more : (o : Option Support) → In support.ack (acks seats) → In support.ack (map (λ (s : Support). s.ack) (cons_option o (filter_map (λ (s : Seat). s.support) seats)))
+    more None j = j
+    more (Some y) j = inr j
 
 in_acks : (seats : List Seat) (who : ℕ) (support : Support) (seat : Seat) → In seat seats → seat.member.who ≡ who → In support.ack (acks (map (supported who support) seats))
 in_acks [] who support seat i mine = absurd i

@@ -14,7 +14,7 @@ use Rattle.safety_laws.specs.Effects.{Written, State, Here, NotBelow, Change}
 use Rattle.safety_laws.specs.Laws.{Holds}
 use Rattle.safety_laws.specs.Names.{promise_name, make_name, IsNamed, IsNamedUp, AreNamed, names}
 use Rattle.safety_laws.specs.NotAhead.{IsAtMost, promise_reading, make_reading, AreBehind, not_ahead}
-use Rattle.safety_laws.proofs.Effects.{same_greatest}
+use Rattle.safety_laws.proofs.Given.{same_greatest}
 use Rattle.safety_laws.proofs.Grown.{Grown, Quiet, NewPromise, NewMake, NewUp, grown}
 use Rattle.safety_laws.proofs.Lists.{each_weaker}
 use Rattle.safety_laws.proofs.Stack.{Stepping, RulesOver}

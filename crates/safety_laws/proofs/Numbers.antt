@@ -1,34 +1,33 @@
 -- An id is sent once, under a number below the next one.
-use Rattle.std.proofs.Common.{◌≡◌, ◌≢◌, refl, sym, ap, subst, ◌∙◌, ℕ, suc, ◌≤◌, ◌<◌, Bool, true, false, List, [], ◌∷◌, Option, Some, None, arith}
+use Rattle.std.proofs.Common.{◌≡◌, ◌≢◌, refl, sym, ap, subst, ◌∙◌, ℕ, suc, ◌≤◌, ◌<◌, true, false, List, ◌∷◌, Some, arith}
 use Rattle.std.specs.Prelude.{max}
 use Rattle.std.specs.List.{AllByRecursion}
-use Rattle.std.proofs.lemmas.Bool.Decides.{nat_tests}
 use Rattle.tw_types.specs.declared.team.Team.{Team}
 use Rattle.tw_types.specs.declared.message.Member.{Member}
 use Rattle.tw_types.specs.declared.message.UpdateId.{UpdateId}
 use Rattle.tw_types.specs.declared.message.Kept.{Kept}
 use Rattle.tw_types.specs.declared.outputs.Mode.{Mode}
 use Rattle.tw_types.specs.declared.step.Step.{Step}
-use Rattle.tw_types.specs.Beliefs.{Belief, is_informed}
-use Rattle.tw_types.specs.Process.{Identity, Process, started}
-use Rattle.tw_types.specs.Sends.{Sending, as_sent, awaited_seq}
+use Rattle.tw_types.specs.Beliefs.{is_informed}
+use Rattle.tw_types.specs.Process.{Process, started}
+use Rattle.tw_types.specs.Sends.{Sending, as_sent}
 use Rattle.tw_types.specs.Updates.{sender}
-use Rattle.tw_types.proofs.Up.{Backing, backing}
+use Rattle.tw_types.proofs.Up.{backing}
 use Rattle.tw_machine.specs.History.{SentUpdate, life, send_item}
-use Rattle.tw_machine.specs.Proposing.{own_seat, own_seq}
+use Rattle.tw_machine.specs.Proposing.{own_seq}
 use Rattle.tw_machine.specs.Standing.{member_of}
 use Rattle.tw_machine.specs.World.{world, Admissible}
 use Rattle.safety_laws.specs.Effects.{Written, State, Here, Proposes, Numbers, SendsNone, SendsOne, Change}
-use Rattle.safety_laws.specs.Groups.{OfGroups, OfMember, of_groups}
+use Rattle.safety_laws.specs.Groups.{of_groups}
 use Rattle.tw_types.specs.Items.{In}
 use Rattle.safety_laws.specs.Laws.{Holds}
-use Rattle.safety_laws.specs.Names.{IsNamed, IsOfLife, Present, Earlier}
+use Rattle.safety_laws.specs.Names.{IsOfLife, Present, Earlier}
 use Rattle.safety_laws.specs.Sends.{send_name, id_of, IsOfSender, AllSentOnce, IsNumbered, Sends, sends}
 use Rattle.safety_laws.specs.Sends as numbered
 use Rattle.safety_laws.proofs.Induction.{start_by}
 use Rattle.safety_laws.proofs.Grown.{identity_stays}
 use Rattle.safety_laws.proofs.Lists.{of_each, each_from, each_weaker}
-use Rattle.safety_laws.proofs.Names.{named_still, earlier_life, IsNew, new_named}
+use Rattle.safety_laws.proofs.Names.{named_still, earlier_life, new_named}
 use Rattle.safety_laws.proofs.Stack.{Stepping, RulesOver}
 
 -- ---- a step more, and a start

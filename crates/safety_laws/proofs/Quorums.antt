@@ -22,6 +22,7 @@ use Rattle.safety_laws.specs.Supports.{IsMakeOf, IsSupported, AllSupported, supp
 use Rattle.safety_laws.proofs.Counting.{IsMajority, processes_by, majority_by, shared_by}
 use Rattle.safety_laws.proofs.Groups.{ComesAt, comes_at, has_first, are_majority}
 use Rattle.safety_laws.proofs.Lists.{of_each, each_weaker}
+use Rattle.safety_laws.proofs.Ballots.{not_older_group}
 
 -- ---- what is known of promises and makes
 
@@ -132,9 +133,6 @@ module _ (team : Team) (promises : List Promised) (makes : List Make) (k : Agree
 not_older_still : (g t g1 t1 g2 t2 : ℕ) → IsNotOlder g t g1 t1 → IsNotOlder g1 t1 g2 t2 → IsNotOlder g t g2 t2
 not_older_still g t g1 t1 g2 t2 a b = grind (arith, nat_tests)
 
-not_lower : (g t g1 t1 : ℕ) → IsNotOlder g t g1 t1 → g1 ≤ g
-not_lower g t g1 t1 a = grind (arith, nat_tests)
-
 -- The higher group stands on a decision, of a group that isn't below the lower one, with a pair that isn't below what the shared
 -- process made.
 pub record Binds (team : Team) (promises : List Promised) (makes : List Make) (test : Seat → Bool) (lower higher : Make) : Type 0 where
@@ -166,11 +164,11 @@ binds team promises makes k test lower higher i j turn x = on higher.making.befo
 
     on : (o : Option Decision) → higher.making.before ≡ o → IsNotOlder (or_none o).group (or_none o).turn x.made.making.decision.group x.made.making.decision.turn → Binds team promises makes test lower higher
     on None e pair =
-        let below = not_lower 0 0 x.made.making.decision.group x.made.making.decision.turn pair in
+        let below = not_older_group 0 0 x.made.making.decision.group x.made.making.decision.turn pair in
         let same = x.of_seat.group in
         absurd (omega (arith, positive))
     on (Some best) e pair =
-        let not_below = not_lower best.group best.turn x.made.making.decision.group x.made.making.decision.turn pair in
+        let not_below = not_older_group best.group best.turn x.made.making.decision.group x.made.making.decision.turn pair in
         record { shared = x; best = best; before = e; group = subst (λ (g : ℕ). g ≤ best.group) x.of_seat.group not_below; pair = pair }
 
 -- A made decision that a majority supports, and a made group above its group, made before or after it.

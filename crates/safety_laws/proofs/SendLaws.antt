@@ -1,5 +1,5 @@
 -- The laws on updates that were sent, of every schedule.
-use Rattle.std.proofs.Common.{◌≡◌, refl, sym, ap, subst, ◌∙◌, inl, inr, ℕ, ◌<◌, ◌-◌, Bool, true, false, not, ◌||◌, List, [], ◌∷◌, map, Option, Some, None, arith}
+use Rattle.std.proofs.Common.{◌≡◌, refl, sym, ap, subst, ◌∙◌, inl, inr, ℕ, ◌-◌, Bool, true, false, not, ◌||◌, List, [], ◌∷◌, map, Option, Some, None, arith}
 use Rattle.std.specs.List.{AllByRecursion, list_any}
 use Rattle.std.specs.Option.{option_map}
 use Rattle.tw_types.specs.declared.team.Team.{Team}
@@ -7,25 +7,23 @@ use Rattle.tw_types.specs.Team.{IsSound}
 use Rattle.tw_types.specs.declared.message.Entry.{Entry}
 use Rattle.tw_types.specs.declared.message.Member.{Member}
 use Rattle.tw_types.specs.declared.message.UpdateId.{UpdateId}
-use Rattle.tw_types.specs.declared.message.Kept.{Kept}
 use Rattle.tw_types.specs.declared.message.Decision.{Decision}
 use Rattle.tw_types.specs.declared.step.Step.{Step}
 use Rattle.tw_types.specs.Process.{Process}
 use Rattle.tw_types.specs.Updates.{is_same_id, sender, has_update}
-use Rattle.tw_types.specs.Waiting.{Held, ids_from, entries_from, holes, holes_of, is_hole}
-use Rattle.tw_machine.specs.History.{Make, SentUpdate, life, history}
-use Rattle.tw_machine.specs.Proposing.{own_seq}
+use Rattle.tw_types.specs.Waiting.{Held, ids_from, entries_from, holes, is_hole}
+use Rattle.tw_machine.specs.History.{SentUpdate, life}
 use Rattle.tw_machine.specs.Standing.{member_of}
 use Rattle.tw_machine.specs.World.{world, Admissible}
 use Rattle.safety_laws.specs.Effects.{Written, written}
-use Rattle.safety_laws.specs.Groups.{OfGroups, OfMember, of_groups}
+use Rattle.safety_laws.specs.Groups.{OfMember, of_groups}
 use Rattle.safety_laws.specs.Held.{held_below}
-use Rattle.safety_laws.specs.Ids.{EntryIsOfSend, MakeKeeps, HistoryKeeps, ProcessKeeps, ids}
+use Rattle.safety_laws.specs.Ids.{EntryIsOfSend, MakeKeeps, ids}
 use Rattle.tw_types.specs.Items.{In}
 use Rattle.safety_laws.specs.Laws.{Law, Both}
 use Rattle.safety_laws.specs.Made.{WasMade, WasMadeIfAny}
 use Rattle.safety_laws.specs.Pending.{pending}
-use Rattle.safety_laws.specs.Sends.{id_of, next_id, IsOfSender, AllSentOnce, IsNumbered, Present, Earlier, Sends, FillsNoHole, sends}
+use Rattle.safety_laws.specs.Sends.{id_of, next_id, IsOfSender, IsNumbered, Present, Earlier, Sends, FillsNoHole, sends}
 use Rattle.safety_laws.specs.Supported.{OfSupported}
 use Rattle.safety_laws.proofs.GroupLaws.{groups_rules}
 use Rattle.safety_laws.proofs.HeldBelow.{held_below_rules}
@@ -34,7 +32,7 @@ use Rattle.safety_laws.proofs.IdLists.{same_id_of}
 use Rattle.safety_laws.proofs.Lists.{of_each, in_drop, in_filtered}
 use Rattle.safety_laws.proofs.Numbers.{sends_rules, seq_is_new}
 use Rattle.safety_laws.proofs.Pending.{pending_rules}
-use Rattle.safety_laws.proofs.Stack.{LawRules, Kept as Holding, IsPartOf, OfHistory, stack, rests_on, law_holds}
+use Rattle.safety_laws.proofs.Stack.{LawRules, Kept as Holding, OfHistory, stack, law_holds}
 use Rattle.safety_laws.proofs.Supported.{supported_rules}
 
 -- ---- the laws, one on the other
@@ -55,9 +53,12 @@ with_held team = Both (of_groups team) held_below
 sends_too : (team : Team) → LawRules team (with_sends team)
 sends_too team = stack team (of_groups team) sends (groups_rules team) (sends_rules team)
 
+pub ids_too : (team : Team) → LawRules team (with_ids team)
+ids_too team = stack team (with_sends team) ids (sends_too team) (ids_rules team)
+
 -- in every schedule
 pub sent_well : (team : Team) (past : List Step) → IsSound team → Admissible team past → Holding team (with_ids team) past
-sent_well team past sound ok = law_holds team (with_ids team) (stack team (with_sends team) ids (sends_too team) (ids_rules team)) past sound ok
+sent_well team past sound ok = law_holds team (with_ids team) (ids_too team) past sound ok
 
 pub supported_well : (team : Team) (past : List Step) → IsSound team → Admissible team past → Holding team (with_supported team) past
 supported_well team past sound ok = law_holds team (with_supported team) (stack team (of_groups team) (OfHistory (OfSupported team)) (groups_rules team) (supported_rules team)) past sound ok

@@ -32,13 +32,13 @@ use Rattle.safety_laws.specs.Sends.{AllSentOnce}
 use Rattle.safety_laws.specs.Supported.{IsSentInSupported, IsAppendedInSupported}
 use Rattle.safety_laws.proofs.Lists.{of_each, each_weaker}
 
-abbrev at : ℕ → ℕ → ℕ → Act → Step
+abbrev pub at : ℕ → ℕ → ℕ → Act → Step
 at t who h act = record { t = t; who = who; h = h; act = act }
 
 abbrev says : ℕ → Act
 says byte = Send orders.Total atoms.Weak (record { items = byte ∷ [] })
 
-abbrev ordered : List Step
+abbrev pub ordered : List Step
 ordered =
     at 732000 1 732000 Tick
     ∷ at 723000 1 723000 (Recv 21)
@@ -67,11 +67,11 @@ ordered =
 abbrev id : (who seq : ℕ) → UpdateId
 id who seq = record { who = who; incarnation = 699990; seq = seq }
 
-abbrev entry : (who seq : ℕ) → Entry
+abbrev pub entry : (who seq : ℕ) → Entry
 entry who seq = record { id = id who seq; order = orders.Total; atom = atoms.Weak; stamp = 714000; late = false }
 
 -- an update of this process, number and byte, stamped with its reading at its send
-abbrev update : (who seq byte : ℕ) → Kept
+abbrev pub update : (who seq byte : ℕ) → Kept
 update who seq byte = record {
   entry = entry who seq;
   early = false;
@@ -83,7 +83,7 @@ abbrev send : (who seq byte : ℕ) → SentUpdate
 send who seq byte = record { who = who; member = record { who = who; incarnation = 699990 }; life = 1; t = 714000; h = 714000; sending = record { group = 7; update = update who seq byte } }
 
 -- the team and the schedule are such as the laws speak of
-sound : IsSound team_a
+pub sound : IsSound team_a
 sound = record {
   at_least_three = omega arith;
   at_most_fifteen = omega arith;
@@ -118,10 +118,10 @@ sent = refl
 
 -- ---- decisions
 
-abbrev seat : (who next : ℕ) → Option Support → Seat
+abbrev pub seat : (who next : ℕ) → Option Support → Seat
 seat who next support = record { member = record { who = who; incarnation = 699990 }; next = next; support = support }
 
-abbrev of_length : (length at : ℕ) → Option Support
+abbrev pub of_length : (length at : ℕ) → Option Support
 of_length length at = Some (record { ack = length; at = at })
 
 -- one of group 7, made at this reading
@@ -139,16 +139,16 @@ decision turn made maker seats entries = record {
 }
 
 -- That of turn 1 is the first one with supports of two of three; that of turn 2 has an update of process 0, and that of turn 3 two more.
-abbrev turn_0 : Decision
+abbrev pub turn_0 : Decision
 turn_0 = decision 0 702000 1 (seat 0 1 None ∷ seat 1 1 (of_length 0 702000) ∷ seat 2 1 None ∷ []) []
 
-abbrev turn_1 : Decision
+abbrev pub turn_1 : Decision
 turn_1 = decision 1 712000 2 (seat 0 1 None ∷ seat 1 1 (of_length 0 702000) ∷ seat 2 1 (of_length 0 712000) ∷ []) []
 
-abbrev turn_2 : Decision
+abbrev pub turn_2 : Decision
 turn_2 = decision 2 722000 0 (seat 0 2 (of_length 1 722000) ∷ seat 1 1 (of_length 0 702000) ∷ seat 2 1 (of_length 0 712000) ∷ []) (entry 0 1 ∷ [])
 
-abbrev turn_3 : Decision
+abbrev pub turn_3 : Decision
 turn_3 = decision 3 732000 1 (seat 0 2 (of_length 1 722000) ∷ seat 1 3 (of_length 3 732000) ∷ seat 2 1 (of_length 0 712000) ∷ []) (entry 0 1 ∷ entry 1 1 ∷ entry 1 2 ∷ [])
 
 -- these are made

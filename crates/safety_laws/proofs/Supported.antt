@@ -1,12 +1,11 @@
 -- Updates are sent, and entries appended, in groups that a majority of the team supports.
-use Rattle.std.proofs.Common.{◌≡◌, ◌≢◌, refl, sym, ap, subst, ◌∙◌, inl, inr, ℕ, ◌+◌, ◌/◌, ◌≤◌, Bool, true, false, cond, ◌||◌, List, [], ◌∷◌, Option, Some, None, is_some, count_by, arith}
+use Rattle.std.proofs.Common.{◌≡◌, ◌≢◌, refl, sym, ap, subst, ◌∙◌, inr, ℕ, ◌+◌, ◌≤◌, Bool, true, false, cond, ◌||◌, List, [], ◌∷◌, Option, Some, None, is_some, count_by, arith}
 use Rattle.std.specs.Prelude.{find}
-use Rattle.std.specs.List.{AllByRecursion, list_any}
+use Rattle.std.specs.List.{list_any}
 use Rattle.std.proofs.lemmas.Option.{same_Some}
 use Rattle.std.proofs.lemmas.List.Sums.{sum_by-cons}
 use Rattle.tw_types.specs.declared.team.Team.{Team}
 use Rattle.tw_types.specs.declared.message.Support.{Support}
-use Rattle.tw_types.specs.declared.message.Kept.{Kept}
 use Rattle.tw_types.specs.declared.message.Seat.{Seat}
 use Rattle.tw_types.specs.declared.message.Decision.{Decision}
 use Rattle.tw_types.specs.declared.step.Step.{Step}
@@ -17,10 +16,9 @@ use Rattle.tw_types.specs.Flag.{counts, is_up}
 use Rattle.tw_types.specs.Process.{Process}
 use Rattle.tw_types.specs.Sends.{Sending}
 use Rattle.tw_types.specs.Votes.{Making}
-use Rattle.tw_types.proofs.Up.{Backing, backing}
+use Rattle.tw_types.proofs.Up.{backing}
 use Rattle.tw_machine.specs.Deciding.{kept_to_add, next_made}
 use Rattle.tw_machine.specs.History.{Make, SentUpdate, make_item, send_item}
-use Rattle.tw_machine.specs.Proposing.{own_seat}
 use Rattle.tw_machine.specs.Standing.{member_of, last_decision}
 use Rattle.tw_machine.specs.World.{world}
 use Rattle.safety_laws.specs.Effects.{Written, State, Here, Proposes, Numbers, SendsNone, SendsOne, MakeReason, Next, Group, Makes, Change}
@@ -28,7 +26,7 @@ use Rattle.safety_laws.specs.Groups.{HasMajority, of_groups}
 use Rattle.tw_types.specs.Items.{In}
 use Rattle.safety_laws.specs.Laws.{Holds}
 use Rattle.safety_laws.specs.Made.{WasMade, KeepsMade}
-use Rattle.safety_laws.specs.Supported.{IsSupportedIn, IsSentInSupported, IsAppendedInSupported, OfSupported}
+use Rattle.safety_laws.specs.Supported.{IsSentInSupported, IsAppendedInSupported, OfSupported}
 use Rattle.safety_laws.proofs.Lists.{each_weaker}
 use Rattle.safety_laws.proofs.MadeLists.{last_made}
 use Rattle.safety_laws.proofs.Stack.{Stepping, RulesOver, OfHistory, history_rules}

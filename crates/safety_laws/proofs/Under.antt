@@ -54,7 +54,7 @@ use Rattle.tw_machine.proofs.Ends.{by_entering, by_group, by_asking, by_using, b
 use Rattle.safety_laws.specs.Effects.{written, held_decision}
 use Rattle.safety_laws.specs.Groups.{OfGroups, OfMember}
 use Rattle.safety_laws.specs.Under.{HadPromised, IsUnder}
-use Rattle.safety_laws.proofs.Effects.{none_present}
+use Rattle.safety_laws.proofs.Given.{none_present}
 use Rattle.safety_laws.proofs.GroupLaws.{grouped_well}
 use Rattle.safety_laws.proofs.Induction.{earlier, Turn, turn}
 use Rattle.safety_laws.proofs.Lists.{of_each}

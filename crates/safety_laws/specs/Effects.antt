@@ -1,6 +1,6 @@
 -- What a part of a step may do to its process and to what was written down of the schedule. The laws on groups are proved of these
 -- effects alone; each part of a step is a row of them. An effect says what the rule says, and not who happens to reach it.
-use Rattle.std.specs.Prelude.{ℕ, ◌+◌, ◌≤◌, ◌<◌, ◌≡◌, true, false, List, ◌∷◌, ◌++◌, map, Option, Some, None, Ok}
+use Rattle.std.specs.Prelude.{ℕ, ◌+◌, ◌≤◌, ◌<◌, ◌≡◌, ◌||◌, true, false, List, ◌∷◌, ◌++◌, map, Option, Some, None, Ok}
 use Rattle.std.specs.List.{AllByRecursion}
 use Rattle.std.specs.Option.{option_map}
 use Rattle.tw_num.specs.declared.moment.Moment.{Moment}
@@ -37,7 +37,7 @@ use Rattle.tw_machine.specs.History.{Promised, SentUpdate, Up, promise_item, mak
 use Rattle.tw_machine.specs.History as items
 use Rattle.tw_machine.specs.Run.{Run}
 use Rattle.tw_machine.specs.World.{Deed, world}
-use Rattle.tw_machine.specs.Standing.{member_of, last_decision, report_by}
+use Rattle.tw_machine.specs.Standing.{member_of, last_decision, is_ready, report_by}
 use Rattle.tw_machine.specs.Entering.{entered}
 use Rattle.tw_machine.specs.Deciding.{supporting, next_made}
 use Rattle.tw_machine.specs.Proposing.{own_seat, own_seq}
@@ -219,12 +219,13 @@ pub record Keeps (here : Here) (x y : State) : Type 0 where
   pub sent : y.written.sent ≡ x.written.sent ++ map (sent_at here.step.t) new
   pub told : AllByRecursion (IsToldBy here y) new
 
--- A promise at a reading, which passes all that is asked of a promise. It tells what the process reports of itself.
+-- A promise at a reading, of a process that may promise, which passes all that is asked of a promise. It tells what the process reports of itself.
 pub record Promises (here : Here) (x y : State) : Type 0 where
   pub given : Promise
   pub t : ℕ
   pub reading : here.now.reading ≡ Some t
   pub read : x.process.timing.clock.greatest ≡ Some t
+  pub able : (is_informed x.process.belief || is_ready x.process) ≡ true
   pub not_quarantined : is_quarantined here.team x.process.identity here.now.h ≡ false
   pub in_window : is_in_window here.team given.number t ≡ true
   pub above : x.process.vote.promised < given.number

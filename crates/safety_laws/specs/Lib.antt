@@ -26,3 +26,7 @@ pub mod Sends
 pub mod Supported
 pub mod Ids
 pub mod Pending
+pub mod Lists
+pub mod Reported
+pub mod Beginnings
+pub mod Acknowledged

@@ -119,7 +119,8 @@ pub record StartsAfter (team : Team) (full : Bool) (start : ℕ) (r : Report) : 
   pub lease : full ≡ false → (support : ℕ) → r.support ≡ Some support → support + team.lease < start
 
 -- A group is made by the owner of its number of a ballot of promises of a majority. Its members are those of the consistent
--- reports. It stands on the greatest decision that an informed one told, and starts after it, and after all that it names.
+-- reports. It stands on the greatest decision that an informed one told, adds nothing to its list, and starts after it, and after all
+-- that it names.
 pub record ComesFrom (team : Team) (promises : List Promised) (older : List Make) (m : Make) : Type 0 where
   pub owned : owner team.n m.making.decision.group ≡ m.who
   pub positive : 1 ≤ m.making.decision.group
@@ -129,6 +130,7 @@ pub record ComesFrom (team : Team) (promises : List Promised) (older : List Make
   pub majority : team.n / 2 + 1 ≤ count_by is_by_informed m.making.reports
   pub best : IsBest m.making.reports m.making.before
   pub before : WasMadeIfAny older m.making.before
+  pub appended : m.making.appended ≡ []
   pub lower : (d : Decision) → m.making.before ≡ Some d → d.group < m.making.decision.group
   pub members : AllByRecursion (λ (s : Seat). (r : Report) × In r m.making.reports × (is_consistent m.making.before r ≡ true) × (r.member ≡ s.member)) m.making.decision.seats.items
   pub seats : team.n / 2 + 1 ≤ length m.making.decision.seats.items

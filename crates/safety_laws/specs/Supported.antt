@@ -9,7 +9,6 @@ use Rattle.tw_machine.specs.History.{Make, SentUpdate}
 use Rattle.safety_laws.specs.Effects.{Written}
 use Rattle.safety_laws.specs.Groups.{HasMajority}
 use Rattle.tw_types.specs.Items.{In}
-use Rattle.safety_laws.specs.Laws.{Law}
 use Rattle.safety_laws.specs.Made.{WasMade}
 
 -- a made decision of the group has this member as a seat, and supports of a majority

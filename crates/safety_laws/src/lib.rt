@@ -3,11 +3,16 @@
 #![tactic(auto)]
 
 mod clocks;
+mod group_lists;
 mod history;
 mod laws;
 mod sends;
 
 pub use clocks::{bounds_cover_every_delay, clocks_hold_team_time};
+pub use group_lists::{
+    acknowledged_entries_last, consistent_reports_begin_the_best_list, lists_are_whole,
+    logs_are_the_groups_list, silent_groups_add_nothing, supports_tell_lengths,
+};
 pub use history::history_is_seen;
 pub use laws::{
     decisions_are_promised, leases_outlast_older_groups, lost_supports_are_older,

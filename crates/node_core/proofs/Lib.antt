@@ -11,4 +11,7 @@ pub mod Drafts
 pub mod Others
 pub mod Steps
 pub mod Concerns
+pub mod InTurn
+pub mod Marks
+pub mod Machines
 mod Worked

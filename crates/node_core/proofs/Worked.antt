@@ -1,5 +1,5 @@
 -- What a core may be given and what it may keep, worked out by hand.
-use Rattle.std.proofs.Common.{◌≡◌, refl, ap, ℕ, zero, suc, ◌^◌, ◌-◌, arith, replicate, get_or, [], Option, Some, None}
+use Rattle.std.proofs.Common.{◌≡◌, refl, ap, ℕ, zero, suc, ◌+◌, ◌^◌, ◌-◌, arith, List, replicate, get_or, [], Option, Some, None}
 use Rattle.tw_num.specs.declared.moment.Moment.{Moment}
 use Rattle.tw_types.specs.declared.datagram.Echo.{Echo}
 use Rattle.tw_types.specs.declared.outputs.Mode.TheVariants.{First, Again}
@@ -16,6 +16,7 @@ use Rattle.node_core.specs.Events.{IsGivable}
 use Rattle.node_core.specs.InRange.{IsInRange}
 use Rattle.node_core.specs.Moments.{MomentFits}
 use Rattle.node_core.specs.StandsFor.{StandsFor}
+use Rattle.node_core.specs.WithMachine.{StandsWith}
 
 -- ---- events
 
@@ -125,6 +126,17 @@ for_another s = let e : 1 ≡ 0 = ap (λ (i : Identity). i.who) s.identity in om
 
 for_one_that_lost_its_memory : StandsFor made (started 0 Again 5) → ⊥
 for_one_that_lost_its_memory s = let e = s.belief in cc
+
+-- ---- and its machine, which counts what is applied to it
+
+abbrev one_more : ℕ → List ℕ → ℕ
+one_more count payload = count + 1
+
+stands_with : StandsWith 0 one_more (record { state = made; machine = 0 }) (started 0 First 5)
+stands_with = record { state = stands; content = refl }
+
+something_applied_before : StandsWith 0 one_more (record { state = made; machine = 1 }) (started 0 First 5) → ⊥
+something_applied_before s = let e : 1 ≡ 0 = s.content in omega (arith, e)
 
 in_range : IsInRange made
 in_range = record {

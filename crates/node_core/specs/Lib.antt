@@ -7,3 +7,4 @@ pub mod Events
 pub mod Inbox
 pub mod InRange
 pub mod Outcomes
+pub mod WithMachine

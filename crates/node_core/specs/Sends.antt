@@ -18,6 +18,13 @@ abbrev pub IsSayable : ℕ → Identity → Body → Type 0
 IsSayable n me body = (head : Head) → head.from ≡ me.who → head.incarnation ≡ me.incarnation → BodyFits n head body
 
 -- At most so many datagrams more are sent than before, and all may be handed to the wire if those before may.
+pub record SendsMore (n most : ℕ) (before after : Outputs) : Type 0 where
+  pub fits : AllByRecursion (IsSendable n) before.sends → AllByRecursion (IsSendable n) after.sends
+  pub few : length after.sends ≤ length before.sends + most
+
+-- The same, and no more is delivered.
 pub record GivesMore (n most : ℕ) (before after : Outputs) : Type 0 where
   pub fits : AllByRecursion (IsSendable n) before.sends → AllByRecursion (IsSendable n) after.sends
   pub few : length after.sends ≤ length before.sends + most
+  pub passes : after.passes ≡ before.passes
+  pub earlies : after.earlies ≡ before.earlies

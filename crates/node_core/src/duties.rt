@@ -5,14 +5,14 @@ use tw_num::Moment;
 use tw_types::Outputs;
 
 impl State {
-    ghost use Rattle.std.specs.Prelude.{◌≡◌, ◌<◌, ◌≤◌, ◌+◌, ◌^◌, length, true, Some};
+    ghost use Rattle.std.specs.Prelude.{◌≡◌, ◌<◌, ◌≤◌, ◌+◌, ◌^◌, [], length, true, Some};
     ghost use Rattle.tw_types.specs.declared.team.Team.{Team as TeamSeen};
     ghost use Rattle.tw_machine.specs.Run.{Run};
     ghost use Rattle.tw_machine.specs.Duties.{timed_duties, duties};
     ghost use Rattle.node_core.specs.InRange.{IsInRange};
     ghost use Rattle.node_core.specs.Moments.{MomentFits};
     ghost use Rattle.node_core.specs.Outcomes.{says_again};
-    ghost use Rattle.node_core.specs.Sends.{GivesMore};
+    ghost use Rattle.node_core.specs.Sends.{SendsMore};
     ghost use Rattle.node_core.specs.StandsFor.{RunStandsFor};
 
     /// Does the duties of a process that has the reading `t` of team time, in their order. One whose turn it is holds no ballot
@@ -24,11 +24,13 @@ impl State {
         requires now { MomentFits now.now }
         requires reading { t < 2 ^ 60 }
         requires room { length out.old.sends + 28 ≤ 64 }
+        requires passes { out.old.passes ≡ [] }
+        requires earlies { out.old.earlies ≡ [] }
         ensures stands { (team : TeamSeen) (r : Run) → RunStandsFor team self.old out.old r →
             RunStandsFor team self.new out.new (timed_duties team now.now t r) }
         // who makes a decision or begins a ballot says nothing again at once
         ensures again { says_again self.new (Some t) ≡ true → length out.new.sends ≤ length out.old.sends + 1 }
-        ensures gives { GivesMore self.old.team.n 28 out.old out.new }
+        ensures gives { SendsMore self.old.team.n 28 out.old out.new }
         ensures fits { IsInRange self.new }
         ensures team { self.new.team ≡ self.old.team }
     {
@@ -39,6 +41,7 @@ impl State {
             self.make_group(now, t, out);
         }
         self.begin_election(now, t, out);
+        self.deliver(t, out);
     }
 
     /// Does the duties, in their order. They send at most 43 datagrams: a decision or one that is said again goes out, an election where
@@ -48,9 +51,11 @@ impl State {
         requires fits { IsInRange self.old }
         requires now { MomentFits now.now }
         requires room { length out.old.sends + 43 ≤ 64 }
+        requires passes { out.old.passes ≡ [] }
+        requires earlies { out.old.earlies ≡ [] }
         ensures stands { (team : TeamSeen) (r : Run) → RunStandsFor team self.old out.old r →
             RunStandsFor team self.new out.new (duties team now.now r) }
-        ensures gives { GivesMore self.old.team.n 43 out.old out.new }
+        ensures gives { SendsMore self.old.team.n 43 out.old out.new }
         ensures fits { IsInRange self.new }
         ensures team { self.new.team ≡ self.old.team }
     {

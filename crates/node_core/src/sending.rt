@@ -46,6 +46,8 @@ impl State {
         ensures fits { IsSayable self.now.team.n self.now.identity body.now →
             AllByRecursion (IsSendable self.now.team.n) out.old.sends → AllByRecursion (IsSendable self.now.team.n) out.new.sends }
         ensures few { length out.new.sends ≤ length out.old.sends + 1 }
+        ensures passes { out.new.passes ≡ out.old.passes }
+        ensures earlies { out.new.earlies ≡ out.old.earlies }
     {
         let head = self.head_to(now, to);
         out.sends.send(to, head, body);
@@ -62,6 +64,8 @@ impl State {
         ensures fits { IsSayable self.now.team.n self.now.identity body.now →
             AllByRecursion (IsSendable self.now.team.n) out.old.sends → AllByRecursion (IsSendable self.now.team.n) out.new.sends }
         ensures few { length out.new.sends ≤ length out.old.sends + 1 }
+        ensures passes { out.new.passes ≡ out.old.passes }
+        ensures earlies { out.new.earlies ≡ out.old.earlies }
         ensures same { to ≡ self.now.identity.who → out.new ≡ out.old }
     {
         if to != self.identity.who {
@@ -78,6 +82,8 @@ impl State {
         ensures fits { IsSayable self.now.team.n self.now.identity body.now →
             AllByRecursion (IsSendable self.now.team.n) out.old.sends → AllByRecursion (IsSendable self.now.team.n) out.new.sends }
         ensures few { length out.new.sends ≤ length out.old.sends + 14 }
+        ensures passes { out.new.passes ≡ out.old.passes }
+        ensures earlies { out.new.earlies ≡ out.old.earlies }
     {
         for to in 0..self.team.n {
             self.send_to_other(now, to, body, out);

@@ -2,13 +2,14 @@ ghost use Rattle.std.specs.Prelude.{◌<◌, ◌≤◌, IfSome};
 ghost use Rattle.tw_types.specs.Ranges.{IntervalFits, EchoFits, DatagramFits};
 
 use crate::{Core, Event};
+use app_table::Table;
 use arrayvec::ArrayVec;
 use std::alloc::Global;
 use std::mem::size_of;
 use std::test::Fail;
 use tw_num::{Interval, WantOfMemory};
 use tw_types::{
-    Answer, Atom, Body, Datagram, Echo, Entry, Head, Kept, Mode, Order, Outputs, ProposeFault,
+    Answer, Atom, Body, Datagram, Echo, Entry, Head, How, Kept, Mode, Order, Outputs, ProposeFault,
     Reason, Team, UpdateId, Want, WireFault,
 };
 use wire_body::write;
@@ -30,10 +31,10 @@ const TEAM: Team = Team {
 };
 
 /// A process of the team, started at 5.
-fn process(alloc: Global, who: u8) -> Result<Core, WantOfMemory>
+fn process(alloc: Global, who: u8) -> Result<Core<Table>, WantOfMemory>
     requires { who < 3 }
 {
-    Core::new(alloc, TEAM, who, Mode::First, 5)
+    Core::new(alloc, TEAM, who, Mode::First, 5, Table::new(alloc)?)
 }
 
 /// A sign of life.
@@ -74,7 +75,7 @@ fn echo(a: u32, b: u32) -> Option<Echo>
 }
 
 /// The process takes the datagram's bytes.
-fn receive(core: &mut Core, h: u32, datagram: &Datagram, out: &mut Outputs) -> Answer
+fn receive(core: &mut Core<Table>, h: u32, datagram: &Datagram, out: &mut Outputs) -> Answer
     requires { DatagramFits 3 datagram.now }
 {
     let mut bytes = [0; 4096];
@@ -82,7 +83,7 @@ fn receive(core: &mut Core, h: u32, datagram: &Datagram, out: &mut Outputs) -> A
     core.step(Event::Packet(&bytes[..length]), h.into(), out)
 }
 
-fn reading(core: &mut Core, h: u32) -> Option<u64> {
+fn reading(core: &mut Core<Table>, h: u32) -> Option<u64> {
     core.look(h.into()).reading
 }
 
@@ -284,7 +285,7 @@ fn answer_to(
     datagram: &[u8],
 ) -> Result<Answer, WantOfMemory> {
     let mut out = Outputs::new(alloc)?;
-    let mut one = Core::new(alloc, TEAM, 1, mode, 5)?;
+    let mut one = Core::new(alloc, TEAM, 1, mode, 5, Table::new(alloc)?)?;
     let lo = u64::from(h);
     let hi = lo + u64::from(width);
     let _ = one.step(Event::Reference { lo, hi }, lo, &mut out);
@@ -435,8 +436,20 @@ fn update(seq: u32) -> UpdateId {
     id(1, LIFE, seq)
 }
 
-/// Decision 7.`turn` of this maker at `made`, as it is sent to process 0. From position `low` on it has these updates, which are
-/// timed ones that came late, each stamped with its number; its seats await the number `next`.
+/// The classes of updates, as they are spelled.
+const UNORDERED_WEAK: u8 = 0;
+
+const TOTAL_WEAK: u8 = 3;
+
+const TIMED_WEAK: u8 = 6;
+
+const TIMED_STRICT: u8 = 8;
+
+/// Timed and weak, and it came late.
+const LATE: u8 = 22;
+
+/// Decision 7.`turn` of this maker at `made`, as it is sent to process 0. From position `low` on it has these updates, each of its
+/// class and stamped with its number; its seats await the number `next`, and acknowledged nothing.
 fn decision_of(
     alloc: Global,
     turn: u8,
@@ -444,7 +457,7 @@ fn decision_of(
     made: u32,
     low: u8,
     next: u32,
-    updates: &[UpdateId],
+    updates: &[(UpdateId, u8)],
 ) -> Result<Vec<u8>, WantOfMemory> {
     let mut body = Vec::new(alloc);
     body.extend_from_slice(&[Field::Eight(7), Field::Eight(turn.into())])?;
@@ -456,15 +469,15 @@ fn decision_of(
     }
     let count = u8::try_from(updates.len()).unwrap_or(255);
     body.extend_from_slice(&[Field::One(maker), Field::One(count)])?;
-    for id in updates {
+    for (id, class) in updates {
         body.extend_from_slice(&[Field::One(id.who), Field::Eight(id.incarnation)])?;
-        body.extend_from_slice(&[Field::Four(id.seq), Field::One(22)])?;
+        body.extend_from_slice(&[Field::Four(id.seq), Field::One(*class)])?;
         body.push(Field::Eight(id.seq.into()))?;
     }
     packet(alloc, 2, maker, 0, Some(made), &body)
 }
 
-/// Such a decision with so many updates of process 1. The one at position 0 is its first.
+/// Such a decision with so many strict updates of process 1, of which none may pass. The one at position 0 is its first.
 fn decision(
     alloc: Global,
     turn: u8,
@@ -475,14 +488,15 @@ fn decision(
 ) -> Result<Vec<u8>, WantOfMemory> {
     let mut updates = Vec::new(alloc);
     for place in 0..count {
-        updates.push(update(u32::from(low) + u32::from(place) + 1))?;
+        let id = update(u32::from(low) + u32::from(place) + 1);
+        updates.push((id, TIMED_STRICT))?;
     }
     decision_of(alloc, turn, maker, made, low, 1, &updates)
 }
 
 /// Process 0 in this life, which knows its time and promised group 7.
-fn of_group_seven(alloc: Global, out: &mut Outputs) -> Result<Core, WantOfMemory> {
-    let mut core = Core::new(alloc, TEAM, 0, Mode::First, LIFE)?;
+fn of_group_seven(alloc: Global, out: &mut Outputs) -> Result<Core<Table>, WantOfMemory> {
+    let mut core = Core::new(alloc, TEAM, 0, Mode::First, LIFE, Table::new(alloc)?)?;
     let time = Event::Reference {
         lo: 700_000,
         hi: 700_000,
@@ -509,7 +523,7 @@ fn asks_for_the_first(out: &Outputs, asked: Option<u8>) -> bool {
 
 /// Whether the process answers so to the bytes at `h`.
 fn takes(
-    core: &mut Core,
+    core: &mut Core<Table>,
     out: &mut Outputs,
     h: u32,
     datagram: &[u8],
@@ -521,7 +535,7 @@ fn takes(
 
 /// Whether it does, and asks this process, or none, for the first update of process 1.
 fn answers(
-    core: &mut Core,
+    core: &mut Core<Table>,
     out: &mut Outputs,
     h: u32,
     datagram: &[u8],
@@ -532,7 +546,7 @@ fn answers(
 }
 
 /// The same of a tick.
-fn ticks(core: &mut Core, out: &mut Outputs, h: u32, asked: Option<u8>) -> bool {
+fn ticks(core: &mut Core<Table>, out: &mut Outputs, h: u32, asked: Option<u8>) -> bool {
     let answer = core.step(Event::Tick, h.into(), out);
     answer == Answer::Done && asks_for_the_first(out, asked)
 }
@@ -590,18 +604,19 @@ fn as_sent(id: UpdateId) -> Kept {
     }
 }
 
-/// Whether process 0 answers so to these updates, one after the other, which process 1 sends. They tell nothing of time.
+/// Whether process 0 answers so to these updates of a class, one after the other, which process 1 sends. They tell nothing of time.
 fn updates_come(
     alloc: Global,
-    core: &mut Core,
+    core: &mut Core<Table>,
     out: &mut Outputs,
     h: u32,
+    class: u8,
     rows: &[(UpdateId, Option<Reason>)],
 ) -> Result<bool, WantOfMemory> {
     for (id, reason) in rows {
         let mut body = Vec::new(alloc);
         body.extend_from_slice(&[Field::One(id.who), Field::Eight(id.incarnation)])?;
-        body.extend_from_slice(&[Field::Four(id.seq), Field::One(6)])?;
+        body.extend_from_slice(&[Field::Four(id.seq), Field::One(class)])?;
         body.extend_from_slice(&[Field::Eight(id.seq.into()), Field::One(0)])?;
         body.extend_from_slice(&[Field::One(1), Field::One(9)])?;
         let datagram = packet(alloc, 1, 1, 0, None, &body)?;
@@ -613,7 +628,7 @@ fn updates_come(
 }
 
 /// How long the process's list is.
-fn length(core: &mut Core, h: u32) -> u64 {
+fn length(core: &mut Core<Table>, h: u32) -> u64 {
     core.look(h.into()).length
 }
 
@@ -628,7 +643,16 @@ fn updates_that_come(rt: HostRuntime) -> Result<(), Fail> {
         (id(0, LIFE, 1), Some(Reason::NotMember)),
         (update(1), Some(Reason::NotMember)),
     ];
-    assert!(rt; updates_come(alloc, &mut core, &mut out, 712_000, &without_seats)?);
+    assert!(rt;
+        updates_come(
+            alloc,
+            &mut core,
+            &mut out,
+            712_000,
+            TIMED_WEAK,
+            &without_seats
+        )?
+    );
     let first = decision_of(alloc, 1, 1, 713_000, 0, 3, &[])?;
     assert!(rt; takes(&mut core, &mut out, 713_000, &first, None));
     let seated = [
@@ -642,8 +666,13 @@ fn updates_that_come(rt: HostRuntime) -> Result<(), Fail> {
         (update(10), None),
         (update(11), Some(Reason::OutOfWindow)),
     ];
-    assert!(rt; updates_come(alloc, &mut core, &mut out, 713_100, &seated)?);
-    let wanted = [id(2, 5, 4), update(2), update(11), id(0, LIFE, 3)];
+    assert!(rt; updates_come(alloc, &mut core, &mut out, 713_100, TIMED_WEAK, &seated)?);
+    let wanted = [
+        (id(2, 5, 4), LATE),
+        (update(2), LATE),
+        (update(11), LATE),
+        (id(0, LIFE, 3), LATE),
+    ];
     let second = decision_of(alloc, 2, 1, 713_200, 0, 3, &wanted)?;
     let missing = Some(Reason::Missing(id(2, 5, 4)));
     assert!(rt; takes(&mut core, &mut out, 713_200, &second, missing));
@@ -653,9 +682,18 @@ fn updates_that_come(rt: HostRuntime) -> Result<(), Fail> {
         (update(11), None),
         (update(2), None),
     ];
-    assert!(rt; updates_come(alloc, &mut core, &mut out, 713_300, &holes)?);
+    assert!(rt; updates_come(alloc, &mut core, &mut out, 713_300, TIMED_WEAK, &holes)?);
     assert_eq!(rt; length(&mut core, 713_300), 0);
-    assert!(rt; updates_come(alloc, &mut core, &mut out, 713_300, &[(id(2, 5, 4), None)])?);
+    assert!(rt;
+        updates_come(
+            alloc,
+            &mut core,
+            &mut out,
+            713_300,
+            TIMED_WEAK,
+            &[(id(2, 5, 4), None)]
+        )?
+    );
     assert_eq!(rt; length(&mut core, 713_300), 4);
     Ok(())
 }
@@ -678,7 +716,7 @@ fn gives(out: &Outputs, wanted: Option<&Kept>) -> bool {
 /// sent first.
 fn questions_come(
     alloc: Global,
-    core: &mut Core,
+    core: &mut Core<Table>,
     out: &mut Outputs,
     h: u32,
     rows: &[(UpdateId, bool)],
@@ -715,15 +753,42 @@ fn questions_for_updates(rt: HostRuntime) -> Result<(), Fail> {
     let mut core = of_group_seven(alloc, &mut out)?;
     let nothing = decision_of(alloc, 1, 1, 713_000, 0, 1, &[])?;
     assert!(rt; takes(&mut core, &mut out, 713_000, &nothing, None));
-    assert!(rt; updates_come(alloc, &mut core, &mut out, 713_100, &[(update(1), None)])?);
-    let late = decision_of(alloc, 2, 1, 713_200, 0, 2, &[update(1)])?;
+    assert!(rt;
+        updates_come(
+            alloc,
+            &mut core,
+            &mut out,
+            713_100,
+            TIMED_WEAK,
+            &[(update(1), None)]
+        )?
+    );
+    let late = decision_of(alloc, 2, 1, 713_200, 0, 2, &[(update(1), LATE)])?;
     assert!(rt; takes(&mut core, &mut out, 713_200, &late, None));
-    assert!(rt; updates_come(alloc, &mut core, &mut out, 713_300, &[(update(2), None)])?);
-    let wanted = [update(1), id(2, 5, 1), id(2, 5, 2)];
+    assert!(rt;
+        updates_come(
+            alloc,
+            &mut core,
+            &mut out,
+            713_300,
+            TIMED_WEAK,
+            &[(update(2), None)]
+        )?
+    );
+    let wanted = [(update(1), LATE), (id(2, 5, 1), LATE), (id(2, 5, 2), LATE)];
     let held = decision_of(alloc, 3, 1, 713_400, 0, 2, &wanted)?;
     let missing = Some(Reason::Missing(id(2, 5, 1)));
     assert!(rt; takes(&mut core, &mut out, 713_400, &held, missing));
-    assert!(rt; updates_come(alloc, &mut core, &mut out, 713_500, &[(id(2, 5, 1), None)])?);
+    assert!(rt;
+        updates_come(
+            alloc,
+            &mut core,
+            &mut out,
+            713_500,
+            TIMED_WEAK,
+            &[(id(2, 5, 1), None)]
+        )?
+    );
     let rows = [
         (update(1), true),
         (update(2), true),
@@ -754,20 +819,198 @@ fn a_list_is_full(rt: HostRuntime) -> Result<(), Fail> {
         let datagram = decision(alloc, turn, 1, h, low, 32)?;
         assert!(rt; takes(&mut core, &mut out, h, &datagram, reason), "at {h}");
         for seq in first..=last {
-            assert!(rt; updates_come(alloc, &mut core, &mut out, h, &[(update(seq), None)])?);
+            assert!(rt;
+                updates_come(
+                    alloc,
+                    &mut core,
+                    &mut out,
+                    h,
+                    TIMED_STRICT,
+                    &[(update(seq), None)]
+                )?
+            );
         }
         assert_eq!(rt; length(&mut core, h), last.into());
     }
     Ok(())
 }
 
+/// The only pass of a step, with its update's number.
+fn only_pass(out: &Outputs) -> Option<(u64, u32, How)> {
+    let passes = out.passes.as_slice();
+    if passes.len() != 1 {
+        return None;
+    }
+    let pass = &passes[0];
+    Some((pass.position, pass.kept.entry.id.seq, pass.how))
+}
+
+/// The number of the only update that a step delivers early, marked as such.
+fn only_early(out: &Outputs) -> Option<u32> {
+    let earlies = out.earlies.as_slice();
+    if earlies.len() != 1 || !earlies[0].early {
+        return None;
+    }
+    Some(earlies[0].entry.id.seq)
+}
+
+/// How many positions the process passed.
+fn passed(core: &mut Core<Table>, h: u32) -> u64 {
+    core.look(h.into()).passed
+}
+
+/// Process 0 of group 7, which is up and has nothing on its list.
+fn up_in_group_seven(alloc: Global, out: &mut Outputs) -> Result<Core<Table>, WantOfMemory> {
+    let mut core = of_group_seven(alloc, out)?;
+    let nothing = decision_of(alloc, 1, 1, 713_000, 0, 1, &[])?;
+    let _ = core.step(Event::Packet(&nothing), 713_000, out);
+    Ok(core)
+}
+
+/// A weak update in total order waits. It passes in the step in which it is on the list, and only there.
+#[test]
+fn a_pass(rt: HostRuntime) -> Result<(), Fail> {
+    let alloc = rt.alloc();
+    let mut out = Outputs::new(alloc)?;
+    let mut core = up_in_group_seven(alloc, &mut out)?;
+    assert!(rt;
+        updates_come(
+            alloc,
+            &mut core,
+            &mut out,
+            713_100,
+            TOTAL_WEAK,
+            &[(update(1), None)]
+        )?
+    );
+    assert!(rt; only_pass(&out).is_none() && only_early(&out).is_none());
+    let listed = decision_of(alloc, 2, 1, 713_200, 0, 2, &[(update(1), TOTAL_WEAK)])?;
+    assert!(rt; takes(&mut core, &mut out, 713_200, &listed, None));
+    assert!(rt; matches!(only_pass(&out), Some((0, 1, How::Now))));
+    assert!(rt; only_early(&out).is_none() && passed(&mut core, 713_200) == 1);
+    assert!(rt; ticks(&mut core, &mut out, 713_300, None) && only_pass(&out).is_none());
+    Ok(())
+}
+
+/// What the process's table has, if it has one.
+fn entries(core: &Core<Table>) -> Option<&[(u32, u64)]> {
+    core.table().map(Table::entries)
+}
+
+/// Whether the process sends a weak update of each order at `h`. The payload of each puts its number at the key of that number.
+fn sends_puts(core: &mut Core<Table>, out: &mut Outputs, h: u32) -> bool {
+    let orders = [Order::Total, Order::Timed, Order::Timed, Order::Unordered];
+    for number in 1u8..=4 {
+        let order = orders[usize::from(number) - 1];
+        let payload = [0, 0, 0, number, 0, 0, 0, 0, 0, 0, 0, number];
+        let answer = core.propose(h.into(), order, Atom::Weak, &payload, out);
+        if answer != Ok(u32::from(number)) {
+            return false;
+        }
+    }
+    true
+}
+
+/// A total and a timed update are applied as their positions are passed; a late one and an unordered one are not. A process that
+/// was started again has no table.
+#[test]
+fn what_is_applied(rt: HostRuntime) -> Result<(), Fail> {
+    let alloc = rt.alloc();
+    let mut out = Outputs::new(alloc)?;
+    let again = Core::new(alloc, TEAM, 1, Mode::Again, 5, Table::new(alloc)?)?;
+    assert!(rt; entries(&again).is_none());
+    let mut core = up_in_group_seven(alloc, &mut out)?;
+    assert!(rt; sends_puts(&mut core, &mut out, 713_100));
+    assert!(rt; entries(&core) == Some([].as_slice()));
+    let updates = [
+        (id(0, LIFE, 1), TOTAL_WEAK),
+        (id(0, LIFE, 2), TIMED_WEAK),
+        (id(0, LIFE, 3), LATE),
+        (id(0, LIFE, 4), UNORDERED_WEAK),
+    ];
+    let listed = decision_of(alloc, 2, 1, 713_200, 0, 5, &updates)?;
+    assert!(rt; takes(&mut core, &mut out, 713_200, &listed, None));
+    assert!(rt; passed(&mut core, 713_200) == 4);
+    assert!(rt; entries(&core) == Some([(1, 1), (2, 2)].as_slice()));
+    Ok(())
+}
+
+/// A weak unordered update is delivered where it waits, once, and passes as delivered.
+#[test]
+fn an_early_one_that_waits(rt: HostRuntime) -> Result<(), Fail> {
+    let alloc = rt.alloc();
+    let mut out = Outputs::new(alloc)?;
+    let mut core = up_in_group_seven(alloc, &mut out)?;
+    assert!(rt;
+        updates_come(
+            alloc,
+            &mut core,
+            &mut out,
+            713_100,
+            UNORDERED_WEAK,
+            &[(update(1), None)]
+        )?
+    );
+    assert!(rt; only_pass(&out).is_none() && only_early(&out) == Some(1));
+    let again = [(update(1), Some(Reason::Old))];
+    assert!(rt; updates_come(alloc, &mut core, &mut out, 713_100, UNORDERED_WEAK, &again)?);
+    assert!(rt; only_early(&out).is_none());
+    let listed = decision_of(alloc, 2, 1, 713_200, 0, 2, &[(update(1), UNORDERED_WEAK)])?;
+    assert!(rt; takes(&mut core, &mut out, 713_200, &listed, None));
+    assert!(rt; matches!(only_pass(&out), Some((0, 1, How::Earlier))));
+    assert!(rt; only_early(&out).is_none() && passed(&mut core, 713_200) == 1);
+    Ok(())
+}
+
+/// A weak unordered update that never waited stands behind a strict one, for which the cursor waits: it is delivered early, once.
+#[test]
+fn an_early_one_of_the_list(rt: HostRuntime) -> Result<(), Fail> {
+    let alloc = rt.alloc();
+    let mut out = Outputs::new(alloc)?;
+    let mut core = up_in_group_seven(alloc, &mut out)?;
+    let updates = [(update(1), TIMED_STRICT), (update(2), UNORDERED_WEAK)];
+    let held = decision_of(alloc, 2, 1, 713_200, 0, 3, &updates)?;
+    let missing = Some(Reason::Missing(update(1)));
+    assert!(rt; takes(&mut core, &mut out, 713_200, &held, missing));
+    assert!(rt;
+        updates_come(
+            alloc,
+            &mut core,
+            &mut out,
+            713_300,
+            UNORDERED_WEAK,
+            &[(update(2), None)]
+        )?
+    );
+    assert!(rt; only_pass(&out).is_none() && only_early(&out).is_none());
+    assert!(rt;
+        updates_come(
+            alloc,
+            &mut core,
+            &mut out,
+            713_400,
+            TIMED_STRICT,
+            &[(update(1), None)]
+        )?
+    );
+    assert!(rt; only_pass(&out).is_none() && only_early(&out) == Some(2));
+    assert!(rt; length(&mut core, 713_400) == 2 && passed(&mut core, 713_400) == 0);
+    assert!(rt; ticks(&mut core, &mut out, 713_500, None) && only_early(&out).is_none());
+    Ok(())
+}
+
 /// What the process answers where it is to send so many bytes.
-fn send(core: &mut Core, out: &mut Outputs, h: u32, payload: &[u8]) -> Result<u32, ProposeFault> {
+fn send(
+    core: &mut Core<Table>,
+    out: &mut Outputs,
+    h: u32,
+    payload: &[u8],
+) -> Result<u32, ProposeFault> {
     core.propose(h.into(), Order::Total, Atom::Weak, payload, out)
 }
 
 /// The same for 129 bytes, 128 and none, one after the other.
-fn send_sizes(core: &mut Core, out: &mut Outputs, h: u32) -> [Result<u32, ProposeFault>; 3] {
+fn send_sizes(core: &mut Core<Table>, out: &mut Outputs, h: u32) -> [Result<u32, ProposeFault>; 3] {
     [
         send(core, out, h, &[9; 129]),
         send(core, out, h, &[9; 128]),
@@ -777,7 +1020,7 @@ fn send_sizes(core: &mut Core, out: &mut Outputs, h: u32) -> [Result<u32, Propos
 
 /// Whether the process sends updates of these numbers, one after the other, and then refuses for this.
 fn sends_until(
-    core: &mut Core,
+    core: &mut Core<Table>,
     out: &mut Outputs,
     h: u32,
     first: u32,
@@ -897,5 +1140,5 @@ fn kinds_that_are_not_taken(rt: HostRuntime) -> Result<(), Fail> {
 /// there are two sets, and for the end of the list, are far below the 200 KB that they may take together.
 #[test]
 fn a_core_is_small(rt: HostRuntime) {
-    assert!(rt; size_of::<(Core, [Kept; 120], [[Kept; 32]; 2], [Kept; 64])>() < 200_000);
+    assert!(rt; size_of::<(Core<Table>, [Kept; 120], [[Kept; 32]; 2], [Kept; 64])>() < 200_000);
 }

@@ -15,6 +15,7 @@ use Rattle.tw_machine.specs.RowText.{text_of, row_text}
 use Rattle.replayer.specs.Replay.{lines_of, step_limit, Spells, Begins, IsBadLine, Whole, NoTeam, BadLine, Endless, IsVerdict}
 use Rattle.replayer.specs.Cuts.{IsFirstLine, MayGoOn, Tells}
 use Rattle.world.specs.StandsFor.{StandsFor}
+use Rattle.world.specs.Tables.{entries_of}
 use Rattle.replayer.specs.NextLine.{TakesLine}
 use Rattle.replayer.proofs.Cuts.{good_line, any_line, Faced, AsItIs, Longer, no_line, some_line}
 
@@ -22,7 +23,7 @@ use Rattle.replayer.proofs.Cuts.{good_line, any_line, Faced, AsItIs, Longer, no_
 pub record Going (team : Team) (steps rest rows : List ℕ) (w : code.World) : Type 0 where
   pub past : List Step
   pub stands : StandsFor team past w
-  pub text : rows ≡ text_of (rows_of team past)
+  pub text : rows ≡ text_of (rows_of entries_of team past)
   pub within : length past ≤ step_limit
   pub cut : (more : List ℕ) → MayGoOn 1 steps more → MayGoOn (length past + 1) rest more × Spells team.n past (lines_of (rest ++ more)) (lines_of (steps ++ more))
 
@@ -50,8 +51,8 @@ one_more team steps rest line after rows later w new row g first few takes writt
     grown : (s : Step) (past : List Step) → length (s ∷ past) + 1 ≡ length past + 1 + 1
     grown s past = omega arith
 
-    text_push : (past : List Step) (s : Step) (row : Row) → row ≡ row_of team past s → text_of (rows_of team past) ++ row_text row ≡ text_of (rows_of team (s ∷ past))
-    text_push past s row same = ap (λ (r : Row). text_of (rows_of team past) ++ row_text r) same ∙ sym (text_of-push (rows_of team past) (row_of team past s))
+    text_push : (past : List Step) (s : Step) (row : Row) → row ≡ row_of entries_of team past s → text_of (rows_of entries_of team past) ++ row_text row ≡ text_of (rows_of entries_of team (s ∷ past))
+    text_push past s row same = ap (λ (r : Row). text_of (rows_of entries_of team past) ++ row_text r) same ∙ sym (text_of-push (rows_of entries_of team past) (row_of entries_of team past s))
 
 begins : (team : Team) (steps rest rows : List ℕ) (w : code.World) (g : Going team steps rest rows w) (first more : List ℕ) (others : List (List ℕ)) → IsTeamLine first team → fault_of team ≡ None
     → MayGoOn 1 steps more → lines_of (rest ++ more) ≡ others → Begins (first ∷ lines_of (steps ++ more)) team g.past others

@@ -9,10 +9,11 @@ use Rattle.schedule_text.specs.declared.status.Status.TheVariants as status
 use Rattle.replayer.specs.Replay.{lines_of, Begins, Verdict, Whole, NoTeam, Faulty, BadLine, Endless, IsVerdict, status_of, text_before}
 use Rattle.replayer.specs.Answers.{GaveUp, RowsAreWell, IsAnswered, IsReplayed}
 use Rattle.tw_machine.specs.Rows.{rows_of}
-use Rattle.tw_machine.specs.SafeRows.{SafeRows}
+use Rattle.tw_machine.specs.SafeRows.{SafeSoFar}
 use Rattle.tw_machine.specs.ClockLaw.{ReadsWell}
 use Rattle.safety_laws.proofs.ClockLaw.{reads_well}
 use Rattle.safety_laws.proofs.Safe.{safe_rows}
+use Rattle.world.specs.Tables.{entries_of}
 use Rattle.replayer.proofs.Sound.{sound_of}
 use Rattle.replayer.proofs.Verdicts.{nothing_written}
 
@@ -20,8 +21,8 @@ use Rattle.replayer.proofs.Verdicts.{nothing_written}
 pub settled : (s t : Status) → s ≡ t → (GaveUp t → ⊥) → GaveUp s → ⊥
 settled s t e not gave = not (subst (λ (x : Status). GaveUp x) e gave)
 
-begins_well : (lines : List (List ℕ)) (team : Team) (past : List Step) (rest : List (List ℕ)) → Begins lines team past rest → SafeRows team (rows_of team past) × ReadsWell team past
-begins_well lines team past rest begins = (safe_rows team past (sound_of team begins.sound) begins.admissible, reads_well team past (sound_of team begins.sound) begins.admissible)
+begins_well : (lines : List (List ℕ)) (team : Team) (past : List Step) (rest : List (List ℕ)) → Begins lines team past rest → SafeSoFar team (rows_of entries_of team past) × ReadsWell entries_of team past
+begins_well lines team past rest begins = (safe_rows entries_of team past (sound_of team begins.sound) begins.admissible, reads_well entries_of team past (sound_of team begins.sound) begins.admissible)
 
 -- the rows before the line that ends a text are safe, and read near team time
 pub rows_well : (lines : List (List ℕ)) (v : Verdict) → IsVerdict lines v → RowsAreWell v
@@ -41,8 +42,8 @@ replayed all left before taken result a ok = by_verdict a.tells.0 a.tells.1 (sym
       schedule = begins;
       ended = a.ended ok;
       written = a.written ∙ ap (λ t. Some (before ++ t)) rows;
-      safe = safe_rows team past (sound_of team begins.sound) begins.admissible;
-      near = reads_well team past (sound_of team begins.sound) begins.admissible;
+      safe = safe_rows entries_of team past (sound_of team begins.sound) begins.admissible;
+      near = reads_well entries_of team past (sound_of team begins.sound) begins.admissible;
     }
     by_verdict NoTeam is same rows = absurd (cc)
     by_verdict (Faulty fault) is same rows = absurd (cc)

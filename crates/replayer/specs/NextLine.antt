@@ -10,13 +10,14 @@ use Rattle.tw_machine.specs.World.{world}
 use Rattle.tw_machine.specs.Rows.{row_of}
 use Rattle.world.specs.declared.world.World.{World}
 use Rattle.world.specs.StandsFor.{StandsFor}
+use Rattle.world.specs.Tables.{entries_of}
 use Rattle.replayer.specs.declared.text.Refusal.{Refusal}
 use Rattle.replayer.specs.declared.text.Refusal.TheVariants as refusal
 use Rattle.replayer.specs.Replay.{IsBadLine}
 
 -- a line is that of a step that may follow, and the world and the row are those after it
 abbrev pub TakesLine : Team → List Step → List ℕ → World → Row → Type 0
-TakesLine team past line w row = (s : Step) × IsStepLine team.n line s × (cause_of team (world team past).sent past s ≡ None) × StandsFor team (s ∷ past) w × (row ≡ row_of team past s)
+TakesLine team past line w row = (s : Step) × IsStepLine team.n line s × (cause_of team (world team past).sent past s ≡ None) × StandsFor team (s ∷ past) w × (row ≡ row_of entries_of team past s)
 
 -- a line is refused since it can't be the next one, or for want of memory
 abbrev pub RefusesLine : Team → List Step → List ℕ → Refusal → Type 0

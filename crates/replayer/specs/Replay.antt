@@ -14,6 +14,7 @@ use Rattle.tw_machine.specs.Admissible.{cause_of}
 use Rattle.tw_machine.specs.World.{world, Admissible}
 use Rattle.tw_machine.specs.Rows.{rows_of}
 use Rattle.tw_machine.specs.RowText.{text_of}
+use Rattle.world.specs.Tables.{entries_of}
 
 -- the lines of a text: each ends by a line feed, which the last may lack
 abbrev pub lines_of : List ℕ → List (List ℕ)
@@ -71,8 +72,8 @@ status_of (Endless team past) = status.TooLong
 
 -- the rows of the steps before the first line that can't be taken
 abbrev pub text_before : Verdict → List ℕ
-text_before (Whole team past) = text_of (rows_of team past)
+text_before (Whole team past) = text_of (rows_of entries_of team past)
 text_before NoTeam = []
 text_before (Faulty fault) = []
-text_before (BadLine team past cause) = text_of (rows_of team past)
-text_before (Endless team past) = text_of (rows_of team past)
+text_before (BadLine team past cause) = text_of (rows_of entries_of team past)
+text_before (Endless team past) = text_of (rows_of entries_of team past)

@@ -41,7 +41,8 @@ use Rattle.safety_laws.proofs.Added.{kept_come}
 use Rattle.safety_laws.proofs.Ballots.{older_is_not}
 use Rattle.safety_laws.proofs.BeginLists.{same_or_below, view_pair, known_by_pair, begins_list, reaches_window}
 use Rattle.safety_laws.proofs.Begun.{before_beginnings, begun, ballot_begins, promises_part, made_part, new_make, now_known, now_own, now_lists, more_lists, first_is, best_made, group_list_is, group_seated, known_still, process_begins, begun_changes}
-use Rattle.safety_laws.proofs.EndLists.{AllThere, MayEnter, needed_is, entered_ends, fits_low, there_of_entries, none_missing, unmarked_list, ends_by, ends_same, added_there, kept_early}
+use Rattle.safety_laws.proofs.Delivers.{log_delivers}
+use Rattle.safety_laws.proofs.EndLists.{AllThere, MayEnter, needed_is, entered_ends, fits_low, there_of_entries, none_missing, unmarked_list, ends_by, ends_same, added_there, kept_early, ends_delivered}
 use Rattle.safety_laws.proofs.FirstDecisions.{IsFirstOf, were_distinct}
 use Rattle.safety_laws.proofs.Held.{may_take}
 use Rattle.safety_laws.proofs.Lists.{of_each, each_from}
@@ -336,6 +337,7 @@ module _ (team : Team) (past : List Step) (s : Step) (here : Here) (x y : State)
   changed (Change.Give c) = same_makes (ap (λ (w : Written). w.makes) c.written) (ends_same older p y.process (ap (λ (p : Process). p.log) c.process) (ap (λ (p : Process). p.belief) c.process) k.own.1)
   changed (Change.Hold c) = same_makes (ap (λ (w : Written). w.makes) c.written) (ends_same older p y.process (ap (λ (p : Process). p.log) c.process) (ap (λ (p : Process). p.belief) c.process) k.own.1)
   changed (Change.Raise c) = same_makes (ap (λ (w : Written). w.makes) c.written) (ends_same older p y.process (ap (λ (p : Process). p.log) c.process) (ap (λ (p : Process). p.belief) c.process) k.own.1)
+  changed (Change.Deliver c) = same_makes (ap (λ (w : Written). w.makes) c.written) (ends_delivered older p y.process (log_delivers here x y c) (ap (λ (p : Process). p.belief) c.process) k.own.1)
   changed (Change.Take c) = same_makes (ap (λ (w : Written). w.makes) c.written) (subst (λ ms. IsEndOfKnown ms y.process) (ap (λ (w : Written). w.makes) c.written) (take_ends c))
   changed (Change.Make c) = record {
     history = record { begun = half.history; unmarked = rw c.written (new_unmarked c, k.history.unmarked) };

@@ -9,7 +9,7 @@ use Rattle.tw_types.specs.declared.message.Member.{Member}
 use Rattle.tw_types.specs.declared.message.Report.{Report}
 use Rattle.tw_types.specs.declared.message.Seat.{Seat}
 use Rattle.tw_types.specs.declared.step.Step.{Step}
-use Rattle.tw_types.specs.Beliefs.{view_decision, log_length}
+use Rattle.tw_types.specs.Beliefs.{Belief, view_decision, log_length}
 use Rattle.tw_types.specs.Decisions.{or_none, has_seat, is_seat_of}
 use Rattle.tw_types.specs.Groups.{group_made, group_making}
 use Rattle.tw_types.specs.Items.{In}
@@ -35,6 +35,8 @@ use Rattle.safety_laws.specs.Reported.{ReportsTheSame, ReportsAgain, StandStill,
 use Rattle.safety_laws.specs.Sends.{sends}
 use Rattle.safety_laws.specs.Still.{SaysTheSame}
 use Rattle.safety_laws.proofs.BeginLists.{told_pair, pair_older, known_by_pair, consistent_begins}
+use Rattle.safety_laws.proofs.Delivers.{log_delivers}
+use Rattle.safety_laws.proofs.EndLists.{known_same}
 use Rattle.safety_laws.proofs.FirstDecisions.{IsFirstOf, same_member_of}
 use Rattle.safety_laws.proofs.Held.{may_take}
 use Rattle.safety_laws.proofs.Lists.{of_each, each_from, each_weaker}
@@ -316,6 +318,12 @@ module _ (team : Team) (past : List Step) (s : Step) (here : Here) (x y : State)
   entered_begins : (d : Decision) → view_decision y.process.belief ≡ Some d → d.group ≡ y.process.vote.promised → AllByRecursion (BeginsGroup y.process y.written.makes) y.written.makes
   entered_begins d view group = own_begins team steps y.written s.who y.process d after.history.0.0.0.0 after.own.0.0.0.0 view group
 
+  -- a process of the same name and belief, whose list is as long
+  same_begins : (makes : List items.Make) (p q : Process) → q.identity ≡ p.identity → q.belief ≡ p.belief → log_length q.log ≡ log_length p.log → AllByRecursion (BeginsGroup p makes) makes → AllByRecursion (BeginsGroup q makes) makes
+  same_begins makes p q identity belief as_long all = each_weaker (BeginsGroup p makes) (BeginsGroup q makes) makes
+      (λ m begins first seat low. subst (λ l. IsBeginning l m.log) (sym (known_same makes p q belief as_long))
+      (begins first (ap (λ (z : Member). has_seat z m.making.decision) (sym (ap member_of identity)) ∙ seat) (subst (λ (b : Belief). (or_none (view_decision b)).group < m.making.decision.group) belief low))) all
+
   -- whatever the effect
   pub begun_changes : Change here x y → Holds begun steps (world team past) s.who x → Holds begun steps (world team past) s.who y
   begun_changes (Change.Keep c) k = record {
@@ -325,6 +333,11 @@ module _ (team : Team) (past : List Step) (s : Step) (here : Here) (x y : State)
   }
   begun_changes (Change.Hold c) k = record { history = rw c.written k.history; own = rw (c.written, c.process) k.own; others = λ q p other runs. rw c.written (k.others q p other runs) }
   begun_changes (Change.Raise c) k = record { history = rw c.written k.history; own = rw (c.written, c.process) k.own; others = λ q p other runs. rw c.written (k.others q p other runs) }
+  begun_changes (Change.Deliver c) k = record {
+    history = rw c.written k.history;
+    own = rw c.written (same_begins x.written.makes x.process y.process (ap (λ (p : Process). p.identity) c.process) (ap (λ (p : Process). p.belief) c.process) (log_delivers here x y c).same_length k.own);
+    others = λ q p other runs. rw c.written (k.others q p other runs);
+  }
   begun_changes (Change.Give c) k = record {
     history = rw c.written (promised_begun team steps here x y s.who now_known before.history.1 c k.own k.history);
     own = rw (c.written, c.process) k.own;

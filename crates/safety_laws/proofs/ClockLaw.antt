@@ -10,6 +10,7 @@ use Rattle.tw_types.specs.declared.row.RowAnswer.{RowAnswer}
 use Rattle.tw_types.specs.declared.outputs.Mode.{Mode}
 use Rattle.tw_types.specs.Process.{Identity, Process, started}
 use Rattle.tw_types.specs.Row.{Row}
+use Rattle.tw_machine.specs.Applied.{Meaning}
 use Rattle.tw_machine.specs.Event.{Event}
 use Rattle.tw_machine.specs.Hearing.{learn}
 use Rattle.tw_machine.specs.Step.{learnt_by, moment_of, read_by, step, looked}
@@ -112,12 +113,12 @@ sent_well_of team past (d ∷ ds) all = (all.0.told, sent_well_of team past ds a
 pub intervals_sent : (team : Team) (past : List Step) → IsSound team → Admissible team past → AllByRecursion SentWell (world team past).sent
 intervals_sent team past sound ok = sent_well_of team past (world team past).sent (timed team past sound ok).history
 
-own_after : (team : Team) (past : List Step) (s : Step) → (world team (s ∷ past)).process_of s.who ≡ (deed_in team (world team past) s).process
+pub own_after : (team : Team) (past : List Step) (s : Step) → (world team (s ∷ past)).process_of s.who ≡ (deed_in team (world team past) s).process
 own_after team past s = rw (same_number s.who) refl
 
 -- the row of a step reads near its team time
-pub row_near : (team : Team) (past : List Step) (s : Step) → IsSound team → Admissible team (s ∷ past) → ReadsNear team.eps s (row_of team past s)
-row_near team past s sound ok = go (deed_in team (world team past) s).process refl
+pub row_near : {Content : Type 0} (meaning : Meaning Content) (team : Team) (past : List Step) (s : Step) → IsSound team → Admissible team (s ∷ past) → ReadsNear team.eps s (row_of meaning team past s)
+row_near meaning team past s sound ok = go (deed_in team (world team past) s).process refl
   where
     go : (o : Option Process) → (deed_in team (world team past) s).process ≡ o → IfSome (columns team s.h ((world team past).process_of s.who) o).reading (λ T. IsNear team.eps s.t T)
     go None e = tt
@@ -125,9 +126,9 @@ row_near team past s sound ok = go (deed_in team (world team past) s).process re
         let k = (timed team (s ∷ past) sound ok).running s.who p (own_after team past s ∙ e) in
         clock_near team s.who (s ∷ past) p.timing.clock s.t s.h k.timing.reads (may_read_now team past s ok)
 
-pub reads_well : (team : Team) (past : List Step) → IsSound team → Admissible team past → ReadsWell team past
-reads_well team [] sound ok = tt
-reads_well team (s ∷ past) sound ok = (reads_well team past sound (earlier team past s ok), row_near team past s sound ok)
+pub reads_well : {Content : Type 0} (meaning : Meaning Content) (team : Team) (past : List Step) → IsSound team → Admissible team past → ReadsWell meaning team past
+reads_well meaning team [] sound ok = tt
+reads_well meaning team (s ∷ past) sound ok = (reads_well meaning team past sound (earlier team past s ok), row_near meaning team past s sound ok)
 
 -- one more step and its row, at the end of both lists
 one_more : (eps : ℕ) (ss : List Step) (rs : List Row) (s : Step) (r : Row) → EachReadsNear eps ss rs → ReadsNear eps s r → EachReadsNear eps (ss ++ s ∷ []) (rs ++ r ∷ [])
@@ -136,9 +137,9 @@ one_more eps (s' ∷ ss) (r' ∷ rs) s r each near = (each.0, one_more eps ss rs
 one_more eps [] (r' ∷ rs) s r each near = absurd each
 one_more eps (s' ∷ ss) [] s r each near = absurd each
 
-pub rows_read_well : (team : Team) (past : List Step) → ReadsWell team past → EachReadsNear team.eps (reverse past) (rows_of team past)
-rows_read_well team [] well = tt
-rows_read_well team (s ∷ past) well = rw (reverse_onto past s []) (one_more team.eps (reverse past) (rows_of team past) s (row_of team past s) (rows_read_well team past well.0) well.1)
+pub rows_read_well : {Content : Type 0} (meaning : Meaning Content) (team : Team) (past : List Step) → ReadsWell meaning team past → EachReadsNear team.eps (reverse past) (rows_of meaning team past)
+rows_read_well meaning team [] well = tt
+rows_read_well meaning team (s ∷ past) well = rw (reverse_onto past s []) (one_more team.eps (reverse past) (rows_of meaning team past) s (row_of meaning team past s) (rows_read_well meaning team past well.0) well.1)
 
 answer_well : (team : Team) (past : List Step) (s : Step) → team.ppm ≤ 1000 → Admissible team (s ∷ past) → Invariant team (AllSent team) (IsTimed team) past → Turn team past s (deed_in team (world team past) s) → (deed_in team (world team past) s).answer ≢ RowAnswer.Dropped Reason.Disjoint
 answer_well team past s small ok before (Turn.Starts mode act comes) e = let f : RowAnswer.Start ≡ RowAnswer.Dropped Reason.Disjoint = sym (ap (λ (d : Deed). d.answer) comes) ∙ e in cc
@@ -150,8 +151,9 @@ answer_well team past s small ok before (Turn.Happens event p runs brings comes)
     event_agrees team (moment_of team s.h event p) event (learnt_by team s.h event p).packet (read_by team s.h event p) well.not_disjoint (sym (step_answer team s.h event p) ∙ f)
 
 -- no step is answered as contradicting what its process knows
-pub none_dropped : (team : Team) (past : List Step) → IsSound team → Admissible team past → AllByRecursion (λ (r : Row). r.answer ≢ RowAnswer.Dropped Reason.Disjoint) (rows_of team past)
-none_dropped team [] sound ok = tt
-none_dropped team (s ∷ past) sound ok =
-    all_push (λ (r : Row). r.answer ≢ RowAnswer.Dropped Reason.Disjoint) (rows_of team past) (row_of team past s) (none_dropped team past sound (earlier team past s ok))
+pub none_dropped : {Content : Type 0} (meaning : Meaning Content) (team : Team) (past : List Step) → IsSound team → Admissible team past
+    → AllByRecursion (λ (r : Row). r.answer ≢ RowAnswer.Dropped Reason.Disjoint) (rows_of meaning team past)
+none_dropped meaning team [] sound ok = tt
+none_dropped meaning team (s ∷ past) sound ok =
+    all_push (λ (r : Row). r.answer ≢ RowAnswer.Dropped Reason.Disjoint) (rows_of meaning team past) (row_of meaning team past s) (none_dropped meaning team past sound (earlier team past s ok))
     (answer_well team past s sound.drift ok (timed team past sound (earlier team past s ok)) (turn team past s ok))

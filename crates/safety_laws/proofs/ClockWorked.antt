@@ -6,6 +6,7 @@ use Rattle.tw_types.specs.declared.step.Act.{Act}
 use Rattle.tw_types.specs.declared.step.Step.{Step}
 use Rattle.tw_types.specs.declared.step.Act.TheVariants.{First, Tick, Recv, Reference, Look}
 use Rattle.tw_types.specs.declared.row.RowAnswer.{RowAnswer}
+use Rattle.tw_types.specs.Flag.{is_up}
 use Rattle.tw_types.specs.Row.{Row}
 use Rattle.tw_types.specs.Numbered.{numbered}
 use Rattle.tw_num.specs.Rate.{Timely}
@@ -15,6 +16,7 @@ use Rattle.tw_machine.specs.Step.{step}
 use Rattle.tw_machine.specs.World.{silent, world, Admissible}
 use Rattle.tw_machine.specs.Rows.{row_by}
 use Rattle.tw_machine.specs.Dispatches.{Dispatch}
+use Rattle.tw_machine.proofs.Meanings.{no_entries}
 use Rattle.safety_laws.specs.Clocks.{MayRead, EachReadsNear, rate_at}
 use Rattle.tw_machine.specs.ClockLaw.{IsNear}
 
@@ -43,7 +45,7 @@ at_limit : IsNear 1000 5000 6000
 at_limit = record { not_ahead = omega arith; not_behind = omega arith }
 
 abbrev reads : Option ℕ → Row
-reads reading = record (row_by team_a 1 0 (at 5000 0 4000 Look) None (silent None RowAnswer.Look)) { reading = reading }
+reads reading = record (row_by no_entries team_a 1 0 (at 5000 0 4000 Look) None (silent None RowAnswer.Look)) { reading = reading }
 
 too_far_behind : EachReadsNear 1000 (at 5000 0 4000 Look ∷ []) (reads (Some 3999) ∷ []) → ⊥
 too_far_behind each = let near = each.0 in absurd (let behind = near.not_behind in omega arith)
@@ -56,10 +58,10 @@ abbrev beats : List Step
 beats = at 20010 0 20010 Tick ∷ at 1010 0 1010 (Recv 3) ∷ at 510 1 510 (Recv 1) ∷ at 10 0 10 Tick ∷ at 10 0 10 (Reference 10 10) ∷ at 5 1 5 First ∷ at 5 0 5 First ∷ []
 
 sendings : map (λ (d : Dispatch). d.at) (world (record team_a { ppm = 0 }) beats).sent ≡ 10 ∷ 10 ∷ 510 ∷ 510 ∷ 20010 ∷ 20010 ∷ []
-unfolding step duties timed_duties kind_rule
+unfolding is_up step kind_rule timed_duties duties
 sendings = refl
 
 -- the round trip took 20000 at most, of which 18999 at least were waited
 rated : option_and_then (λ d. option_map (rate_at (record team_a { ppm = 0 }) (at 20510 1 20510 (Recv 5)) d) ((world (record team_a { ppm = 0 }) beats).process_of 1)) (numbered 5 (world (record team_a { ppm = 0 }) beats).sent) ≡ Some (Timely 1002)
-unfolding step duties timed_duties kind_rule
+unfolding is_up step kind_rule timed_duties duties
 rated = refl

@@ -22,6 +22,7 @@ use Rattle.tw_types.specs.Votes.{Promise, Making}
 use Rattle.tw_types.specs.Beliefs.{is_informed, view_decision}
 use Rattle.tw_types.specs.Ballots.{wants}
 use Rattle.tw_types.specs.Decisions.{or_none, is_older, is_same_member, has_seat}
+use Rattle.tw_types.specs.Flag.{is_up}
 use Rattle.tw_types.specs.Elections.{why_begun, own_promise, is_willing}
 use Rattle.tw_types.specs.Waiting.{Held, payloads_of, Putting, Filled, Stored, putting}
 use Rattle.tw_types.specs.Sends.{Sending}
@@ -43,6 +44,7 @@ use Rattle.tw_machine.specs.Taking.{decision_tests, take_decision}
 use Rattle.tw_machine.specs.Electing.{promised, answer_tests, election_answered, answer_election, ballot_dropped, has_spent_ballot, drop_ballot, holds_election, election_begun, begin_election}
 use Rattle.tw_machine.specs.Deciding.{supporting, making_kept, decision_made, has_turn, next_made, turn_taken, take_turn}
 use Rattle.tw_machine.specs.Grouping.{promise_added, take_promise, make_group}
+use Rattle.tw_machine.specs.Delivering.{all_delivered, deliver}
 use Rattle.tw_machine.specs.Beating.{is_due, beat_marked, is_repeated, repeat_decision, ask_again, beat_given, give_beat}
 use Rattle.tw_machine.specs.Rules.{kind_rule, rule}
 use Rattle.tw_machine.specs.Duties.{timed_duties, duties_if_timed, duties}
@@ -52,6 +54,7 @@ use Rattle.tw_machine.proofs.Tables.{all_mapped, all_of, equal_numbers}
 use Rattle.tw_machine.proofs.Ends.{by_entering, by_group, by_asking, by_using, by_kept, by_putting, by_answering, by_proposing, by_event}
 use Rattle.safety_laws.specs.Effects.{Written, State, Here, state_of, NotBelow, WasSent, Origin, ByMail, ByItself, Again, First, Says, IsToldBy, Source, Comes, WasHeld, Waits, Stays, Puts, Fills, Goes, ForTaking, ForGroup, Proposes, Numbers, SendsNone, SendsOne, BallotReason, MakeReason, Change, Changes}
 use Rattle.tw_types.specs.Items.{In}
+use Rattle.safety_laws.proofs.Delivers.{delivers}
 use Rattle.safety_laws.proofs.Given.{may_propose, IsPromised, drop_leaves_promised, turn_leaves_promised, group_is, promise_first, make_first, send_first, same_greatest, none_present, not_false, timely_at, still_sent_all, put_received, had_update, informed_by}
 
 -- ---- in one step, after what was written down before it
@@ -96,6 +99,7 @@ module _ (here : Here) (before : Written) where
     greatest = same_greatest r.process.timing.clock.greatest;
     promises = refl;
     makes = refl;
+    lines = refl;
     ups = refl;
     new = new;
     sent = ap (λ xs. before.sent ++ xs) (map-append (sent_at here.step.t) r.out.sends new) ∙ sym (append_assoc before.sent (map (sent_at here.step.t) r.out.sends) (map (sent_at here.step.t) new));
@@ -118,8 +122,8 @@ module _ (here : Here) (before : Written) where
 
   -- a change of what no law on groups reads
   pub still : (a b : Run) → b.process.identity ≡ a.process.identity → b.process.vote ≡ a.process.vote → b.process.ballot ≡ a.process.ballot → b.process.belief ≡ a.process.belief → b.process.log ≡ a.process.log
-      → Waits here (at a) (at b) → Numbers here (at a) (at b) → NotBelow a.process.timing.clock.greatest b.process.timing.clock.greatest → b.promises ≡ a.promises → b.makings ≡ a.makings → b.out.sends ≡ a.out.sends → Change here (at a) (at b)
-  still a b identity vote ballot belief log waits numbers greatest promises makings sends = Change.Keep (record {
+      → Waits here (at a) (at b) → Numbers here (at a) (at b) → NotBelow a.process.timing.clock.greatest b.process.timing.clock.greatest → b.promises ≡ a.promises → b.makings ≡ a.makings → b.out.sends ≡ a.out.sends → b.delivered ≡ a.delivered → Change here (at a) (at b)
+  still a b identity vote ballot belief log waits numbers greatest promises makings sends delivered = Change.Keep (record {
     identity = identity;
     vote = vote;
     ballot = ballot;
@@ -130,6 +134,7 @@ module _ (here : Here) (before : Written) where
     greatest = greatest;
     promises = ap (λ ps. promises_on here.life here.step ps before.promises) promises;
     makes = rw (identity, makings) refl;
+    lines = rw (identity, delivered) refl;
     ups = refl;
     new = [];
     sent = ap (λ ds. before.sent ++ map (sent_at here.step.t) ds) sends ∙ sym (append-nil (before.sent ++ map (sent_at here.step.t) a.out.sends));
@@ -141,7 +146,7 @@ module _ (here : Here) (before : Written) where
   held_row purpose d source id r waits read =
       let held : Run = record r { process = held_for purpose d source r.process } in
       after r held (decision_held here.now purpose d source id r)
-      (one r held (still r held refl refl refl refl refl waits (SendsNone refl refl) (same_greatest r.process.timing.clock.greatest) refl refl refl) read)
+      (one r held (still r held refl refl refl refl refl waits (SendsNone refl refl) (same_greatest r.process.timing.clock.greatest) refl refl refl refl) read)
       (one_sent source _ held read tt)
 
   -- a decision that has a source enters the list, or is held to be taken
@@ -270,6 +275,13 @@ module _ (here : Here) (before : Written) where
       go true e = held e
       go false e = nothing r read
 
+  deliver_row : (t : ℕ) (r : Run) → IsRead r → here.now.reading ≡ Some t → Row r (deliver here.team t r)
+  deliver_row t r read reading = go (is_up here.team r.process.vote r.process.belief (Some t)) refl
+    where
+      go : (up : Bool) → is_up here.team r.process.vote r.process.belief (Some t) ≡ up → Row r (cond up (all_delivered here.team (or_none (last_decision r.process)) r) r)
+      go true up = one r (all_delivered here.team (or_none (last_decision r.process)) r) (Change.Deliver (delivers here before t r reading (read t reading) up)) read
+      go false up = nothing r read
+
   timed_row : (t : ℕ) (r : Run) → IsRead r → here.now.reading ≡ Some t → Row r (timed_duties here.team here.now t r)
   unfolding timed_duties
   timed_row t r read reading =
@@ -279,8 +291,10 @@ module _ (here : Here) (before : Written) where
       let first : Row r a = drop_row t r read in
       let second : Row a b = turn_row t a first.read reading in
       let third : Row b c = group_row t b second.read reading (turn_leaves_promised here t a (drop_leaves_promised here t r)) in
-      let fourth : Row c (begin_election here.team here.now t c) = election_row t c third.read reading in
-      after r c (begin_election here.team here.now t c) (after r b c (after r a b first second) third) fourth
+      let d : Run = begin_election here.team here.now t c in
+      let fourth : Row c d = election_row t c third.read reading in
+      let fifth : Row d (deliver here.team t d) = deliver_row t d fourth.read reading in
+      after r d (deliver here.team t d) (after r c d (after r b c (after r a b first second) third) fourth) fifth
 
   if_timed_row : (reading : Option ℕ) (r : Run) → here.now.reading ≡ reading → IsRead r → Row r (duties_if_timed here.team here.now reading r)
   if_timed_row None r is read = nothing r read
@@ -311,7 +325,7 @@ module _ (here : Here) (before : Written) where
 
       go : (due : Bool) → Row r (cond due (beat_given here.team here.now r) r)
       go true =
-          let first : Row r marked = one r marked (still r marked refl refl refl refl refl (Stays refl refl) (SendsNone refl refl) (same_greatest r.process.timing.clock.greatest) refl refl refl) read in
+          let first : Row r marked = one r marked (still r marked refl refl refl refl refl (Stays refl refl) (SendsNone refl refl) (same_greatest r.process.timing.clock.greatest) refl refl refl refl) read in
           let second : Row marked again = ask_row marked read in
           let third : Row again (repeat_decision here.team here.now again) = repeat_row again second.read in
           after r marked (beat_given here.team here.now r) first
@@ -354,14 +368,14 @@ module _ (here : Here) (before : Written) where
   -- an update that is put, and what a filled hole sets off
 
   waits_row : (put : Putting) (k : Kept) (r : Run) → Waits here (at r) (at (update_kept put k r)) → IsRead r → Row r (update_kept put k r)
-  waits_row put k r waits read = one r (update_kept put k r) (still r (update_kept put k r) refl refl refl refl refl waits (SendsNone refl refl) (same_greatest r.process.timing.clock.greatest) refl refl refl) read
+  waits_row put k r waits read = one r (update_kept put k r) (still r (update_kept put k r) refl refl refl refl refl waits (SendsNone refl refl) (same_greatest r.process.timing.clock.greatest) refl refl refl refl) read
 
   stored_row : (k : Kept) (r : Run) → Origin here (at r) k → putting (view_decision r.process.belief) k r.process.waiting ≡ Stored → IsRead r → Row r (update_kept Stored k r)
   stored_row k r origin is read = waits_row Stored k r (Puts k origin is refl refl) read
 
   use_row : (r : Run) → IsRead r → Row r (use_if_whole here.now r)
   use_row r read = by_using here.now r (Row r) (nothing r read)
-      (one r (held_let_go r) (still r (held_let_go r) refl refl refl refl refl (Goes refl refl) (SendsNone refl refl) (same_greatest r.process.timing.clock.greatest) refl refl refl) read)
+      (one r (held_let_go r) (still r (held_let_go r) refl refl refl refl refl (Goes refl refl) (SendsNone refl refl) (same_greatest r.process.timing.clock.greatest) refl refl refl refl) read)
       (λ h hold is held purpose fresh. enter_row h.decision r (WasHeld hold (ap (option_map (λ (z : Held). z.decision)) is) held purpose (unpromised h.decision hold fresh)) read)
     where
       unpromised : (d : Decision) (hold : Hold) → is_stale hold d r.process ≡ false → hold.promised ≡ r.process.vote.promised
@@ -392,7 +406,7 @@ module _ (here : Here) (before : Written) where
       let newest : (at given).written.sends ≡ item ∷ (at r).written.sends = send_first (member_of r.process.identity) here.life here.step sending r.sendings before.sends in
       let known : WasSent (at given).written.sends k = (item, subst (In item) (sym newest) (inl refl), refl) in
       let put : Run = update_put here.now (putting (view_decision r.process.belief) k r.process.waiting) k given in
-      let first : Row r given = one r given (still r given refl refl refl refl refl (Stays refl refl) (SendsOne sending may refl newest) (same_greatest r.process.timing.clock.greatest) refl refl refl) read in
+      let first : Row r given = one r given (still r given refl refl refl refl refl (Stays refl refl) (SendsOne sending may refl newest) (same_greatest r.process.timing.clock.greatest) refl refl refl refl) read in
       let second : Row given put = put_row k given (ByItself known) read in
       after r put (update_sent here.team here.now k r) (after r given put first second)
       (others_sent here.team.n (bodies.Update k) put second.read (First (still_sent_all here (at given) (at put) k second.changes known)))

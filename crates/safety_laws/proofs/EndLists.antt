@@ -18,7 +18,7 @@ use Rattle.tw_types.specs.Flag.{is_up}
 use Rattle.tw_types.proofs.Appended.{IsAddedFrom}
 use Rattle.tw_machine.specs.Deciding.{kept_to_add}
 use Rattle.safety_laws.proofs.FirstDecisions.{in_list_any, all_mapped_from}
-use Rattle.tw_types.specs.Beliefs.{Informed, is_informed, view_decision, Log, log_length}
+use Rattle.tw_types.specs.Beliefs.{Belief, Informed, is_informed, view_decision, Log, log_length}
 use Rattle.tw_types.specs.Decisions.{decision_length}
 use Rattle.tw_types.specs.Items.{In}
 use Rattle.tw_types.specs.Logs.{list_tests, first_missing, needed, entry_joined, log_after}
@@ -36,6 +36,7 @@ use Rattle.safety_laws.proofs.IdLists.{same_id_of, one_send}
 use Rattle.safety_laws.proofs.Lists.{of_each, each_from, each_weaker, in_first, in_drop, found_in}
 use Rattle.safety_laws.proofs.NextDecisions.{any_in}
 use Rattle.safety_laws.proofs.Prefixes.{finds}
+use Rattle.safety_laws.proofs.Marked.{OnlyDelivers}
 
 -- ---- what is found
 
@@ -224,6 +225,27 @@ ends_by makes more p same k = record {
   whole = λ informed. subst (λ l. log_length p.log ≡ length l) (sym same) (k.whole informed);
 }
 
+-- as much is known where the belief is the same and the list as long
+pub known_same : (makes : List Make) (p q : Process) → q.belief ≡ p.belief → log_length q.log ≡ log_length p.log → known makes q ≡ known makes p
+known_same makes p q belief as_long = ap (λ n. take n (list_of makes (view_decision q.belief))) as_long ∙ ap (λ (b : Belief). take (log_length p.log) (list_of makes (view_decision b))) belief
+
+-- so is the list of a process of which only marks are others, and how much of it is passed
+pub ends_delivered : (makes : List Make) (p q : Process) → OnlyDelivers p.log q.log → q.belief ≡ p.belief → IsEndOfKnown makes p → IsEndOfKnown makes q
+ends_delivered makes p q only belief k =
+    let base = only.base in
+    let more = only.more in
+    let low = k.base in
+    let high = only.within k.passed in
+    let as_long = only.same_length in
+    let list : list_of makes (view_decision q.belief) ≡ list_of makes (view_decision p.belief) = ap (λ (b : Belief). list_of makes (view_decision b)) belief in
+    record {
+      base = omega (arith, base, more, low);
+      passed = omega (arith, high, as_long);
+      within = subst (λ n. n ≤ length (list_of makes (view_decision q.belief))) (sym as_long) (subst (λ l. log_length p.log ≤ length l) (sym list) k.within);
+      entries = only.entries ∙ k.entries ∙ ap (λ n. drop n (known makes p)) (sym base) ∙ ap (drop q.log.base) (sym (known_same makes p q belief as_long));
+      whole = λ informed. as_long ∙ k.whole (ap is_informed (sym belief) ∙ informed) ∙ sym (ap length list);
+    }
+
 -- and of a process with the same list and belief
 pub ends_same : (makes : List Make) (p q : Process) → q.log ≡ p.log → q.belief ≡ p.belief → IsEndOfKnown makes p → IsEndOfKnown makes q
 ends_same makes p q log belief k = record {
@@ -257,7 +279,7 @@ appended_early : (team : Team) (t passed : ℕ) (d : Decision) (pending : List K
 unfolding appended_kept
 appended_early team t passed d pending = added_early d [] (appended_updates team t passed d pending)
 
--- and they are delivered nowhere yet
+-- so what a maker adds has none, also where it was delivered early while it waited
 pub kept_early : (team : Team) (t : ℕ) (last : Decision) (p : Process) → AllByRecursion (λ (k : Kept). k.early ≡ false) (kept_to_add team t last p)
 kept_early team t last p = go (is_up team p.vote p.belief (Some t))
   where

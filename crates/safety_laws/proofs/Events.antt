@@ -114,7 +114,7 @@ event_row here before e p now mail = by_duties (has_duties e)
 
     first : Row here before (run_of p) (read_by here.team here.step.h e p)
     first = record {
-      changes = Changes.Then Changes.Done (still here before (run_of p) (read_by here.team here.step.h e p) refl refl refl refl refl (Stays refl refl) (SendsNone refl refl) learnt refl refl refl);
+      changes = Changes.Then Changes.Done (still here before (run_of p) (read_by here.team here.step.h e p) refl refl refl refl refl (Stays refl refl) (SendsNone refl refl) learnt refl refl refl refl);
       read = λ t is. read_is_greatest here.team.ppm here.team.eps here.step.h t (learnt_by here.team here.step.h e p).timing.clock (ap (λ (m : Moment). m.reading) (sym now) ∙ is);
     }
 
@@ -131,4 +131,4 @@ event_row here before e p now mail = by_duties (has_duties e)
 -- and so is a look
 pub look_row : (here : Here) (before : Written) (p : Process) → Changes here (state_of here before (run_of p)) (state_of here before (run_of (looked here.team here.step.h p)))
 look_row here before p = Changes.Then Changes.Done
-    (still here before (run_of p) (run_of (looked here.team here.step.h p)) refl refl refl refl refl (Stays refl refl) (SendsNone refl refl) (read_grows here.team.ppm here.team.eps here.step.h p.timing.clock) refl refl refl)
+    (still here before (run_of p) (run_of (looked here.team here.step.h p)) refl refl refl refl refl (Stays refl refl) (SendsNone refl refl) (read_grows here.team.ppm here.team.eps here.step.h p.timing.clock) refl refl refl refl)

@@ -107,6 +107,7 @@ still_sent here x y k (Change.Give c) sent = rw c.written sent
 still_sent here x y k (Change.Hold c) sent = rw c.written sent
 still_sent here x y k (Change.Take c) sent = rw c.written sent
 still_sent here x y k (Change.Make c) sent = rw c.written sent
+still_sent here x y k (Change.Deliver c) sent = rw c.written sent
 still_sent here x y k (Change.Raise c) sent = rw c.written sent
 
 pub still_sent_all : (here : Here) (x y : State) (k : Kept) → Changes here x y → WasSent x.written.sends k → WasSent y.written.sends k

@@ -18,6 +18,7 @@ grown here x y (Change.Give c) = NewPromise c (ap (λ (w : Written). w.promises)
 grown here x y (Change.Hold c) = Quiet (ap (λ (w : Written). w.promises) c.written) (ap (λ (w : Written). w.makes) c.written) (ap (λ (w : Written). w.ups) c.written)
 grown here x y (Change.Take c) = Quiet (ap (λ (w : Written). w.promises) c.written) (ap (λ (w : Written). w.makes) c.written) (ap (λ (w : Written). w.ups) c.written)
 grown here x y (Change.Make c) = NewMake c (ap (λ (w : Written). w.promises) c.written) (ap (λ (w : Written). w.makes) c.written) (ap (λ (w : Written). w.ups) c.written)
+grown here x y (Change.Deliver c) = Quiet (ap (λ (w : Written). w.promises) c.written) (ap (λ (w : Written). w.makes) c.written) (ap (λ (w : Written). w.ups) c.written)
 grown here x y (Change.Raise c) = NewUp c (ap (λ (w : Written). w.promises) c.written) (ap (λ (w : Written). w.makes) c.written) (ap (λ (w : Written). w.ups) c.written)
 
 pub identity_stays : (here : Here) (x y : State) → Change here x y → y.process.identity ≡ x.process.identity
@@ -26,4 +27,5 @@ identity_stays here x y (Change.Give c) = ap (λ (p : Process). p.identity) c.pr
 identity_stays here x y (Change.Hold c) = ap (λ (p : Process). p.identity) c.process
 identity_stays here x y (Change.Take c) = ap (λ (p : Process). p.identity) c.process
 identity_stays here x y (Change.Make c) = ap (λ (p : Process). p.identity) c.process
+identity_stays here x y (Change.Deliver c) = ap (λ (p : Process). p.identity) c.process
 identity_stays here x y (Change.Raise c) = ap (λ (p : Process). p.identity) c.process

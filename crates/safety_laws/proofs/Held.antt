@@ -102,6 +102,7 @@ changes here x y (Change.Keep c) well = go c.waits
     go (ForGroup ballot best from there told number is hold) = λ e h f g purpose. absurd (let no : ToGroup ≡ ToTake = cc in cc)
 changes here x y (Change.Give c) well = same_held x.process y.process (ap (λ (p : Process). p.identity) c.process) (ap (λ (p : Process). p.belief) c.process) (ap held_decision c.process) (ap (λ (p : Process). p.hold) c.process) well
 changes here x y (Change.Hold c) well = same_held x.process y.process (ap (λ (p : Process). p.identity) c.process) (ap (λ (p : Process). p.belief) c.process) (ap held_decision c.process) (ap (λ (p : Process). p.hold) c.process) well
+changes here x y (Change.Deliver c) well = same_held x.process y.process (ap (λ (p : Process). p.identity) c.process) (ap (λ (p : Process). p.belief) c.process) (ap held_decision c.process) (ap (λ (p : Process). p.hold) c.process) well
 changes here x y (Change.Raise c) well = rw c.process well
 changes here x y (Change.Take c) well = rw c.process (last_held x.process (entered c.taken_decision x.process) c.taken_decision refl refl (held_after c.taken_decision x.process) well)
 changes here x y (Change.Make c) well =

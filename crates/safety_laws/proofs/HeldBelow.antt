@@ -75,6 +75,7 @@ changes team past s here x y (Change.Keep c) before below = go c.waits
         subst (λ (z : Decision). z.group < h.promised) same (omega (arith, low, number, promised))
 changes team past s here x y (Change.Give c) before below = same_below x.process y.process (ap held_decision c.process) (ap (λ (p : Process). p.hold) c.process) below
 changes team past s here x y (Change.Hold c) before below = same_below x.process y.process (ap held_decision c.process) (ap (λ (p : Process). p.hold) c.process) below
+changes team past s here x y (Change.Deliver c) before below = same_below x.process y.process (ap held_decision c.process) (ap (λ (p : Process). p.hold) c.process) below
 changes team past s here x y (Change.Raise c) before below = rw c.process below
 changes team past s here x y (Change.Take c) before below = rw c.process (last_below x.process (entered c.taken_decision x.process) c.taken_decision (held_after c.taken_decision x.process) below)
 changes team past s here x y (Change.Make c) before below =

@@ -24,6 +24,7 @@ use Rattle.tw_machine.specs.History.{SentUpdate, list_of}
 use Rattle.tw_machine.specs.Standing.{member_of, last_decision}
 use Rattle.tw_machine.specs.World.{world}
 use Rattle.tw_machine.proofs.Tables.{all_joined, all_mapped}
+use Rattle.safety_laws.specs.Beginnings.{unmarked}
 use Rattle.safety_laws.specs.Effects.{Written, State, Here, WasSent, Origin, ByMail, ByItself, TellsUpdate, Again, First, Says, IsToldBy, Waits, Stays, Puts, Fills, Goes, ForTaking, ForGroup, Numbers, SendsNone, SendsOne, MakeReason, Next, Group, Makes, Change}
 use Rattle.safety_laws.specs.Groups.{of_groups}
 use Rattle.safety_laws.specs.Ids.{IsOfSend, EntryIsOfSend, MakeKeeps, ProcessKeeps, BodyKeeps, ids}
@@ -32,10 +33,12 @@ use Rattle.safety_laws.specs.Made.{WasMadeIfAny, best_of, made}
 use Rattle.safety_laws.specs.Promises.{of_promises}
 use Rattle.safety_laws.specs.Sends.{IsOfSender, AllSentOnce, sends}
 use Rattle.safety_laws.proofs.Added.{entries_kept, kept_come}
+use Rattle.safety_laws.proofs.Delivers.{log_delivers, payloads_deliver}
 use Rattle.safety_laws.proofs.IdLists.{make_more, process_more, body_more, payloads_keep, put_keeps, filled_keeps, released_keeps, entered_keeps, list_keeps, window_keeps, any_window_keeps, cut_keeps, added_keep, entries_keep}
 use Rattle.safety_laws.proofs.Lists.{of_each, each_weaker}
 use Rattle.safety_laws.proofs.Made.{source_made}
 use Rattle.safety_laws.proofs.MadeLists.{More, more_same, more_by, last_made}
+use Rattle.safety_laws.proofs.Marked.{each_alike}
 use Rattle.safety_laws.proofs.Stack.{Stepping, IsMailed, RulesOver, IsPartOf, part_holds, first_of}
 use Rattle.safety_laws.proofs.FirstDecisions.{group_is_first}
 
@@ -182,6 +185,17 @@ module _ (team : Team) (past : List Step) (s : Step) (here : Here) (x y : State)
       (ap (λ (p : Process). p.log) c.process) (ap (λ (p : Process). p.waiting) c.process)
   changed (Change.Raise c) = same_all (ap (λ (w : Written). w.sends) c.written) (ap (λ (w : Written). w.makes) c.written) (ap (λ (w : Written). w.sent) c.written)
       (ap (λ (p : Process). p.log) c.process) (ap (λ (p : Process). p.waiting) c.process)
+  changed (Change.Deliver c) = record {
+    history = rw c.written (record { makes = k.history.makes; told = k.history.told });
+    own = rw (ap (λ (w : Written). w.sends) c.written) (record {
+      list = each_alike (IsOfSend x.written.sends) still_of_send x.process.log.entries y.process.log.entries (log_delivers here x y c).entries k.own.list;
+      waiting = each_alike (IsOfSend x.written.sends) still_of_send (payloads_of x.process.waiting) (payloads_of y.process.waiting) (payloads_deliver here x y c) k.own.waiting;
+    });
+    others = λ q p other runs. rw c.written (k.others q p other runs);
+  }
+    where
+      still_of_send : (a b : Kept) → unmarked b ≡ unmarked a → IsOfSend x.written.sends a → IsOfSend x.written.sends b
+      still_of_send a b same was = subst (WasSent x.written.sends) (sym (ap as_sent same)) was
   changed (Change.Take c) =
       let early = first_of (of_groups team) sends (s ∷ past) (world team past) s.who x before in
       let late = first_of (of_groups team) sends (s ∷ past) (world team past) s.who y after in

@@ -69,6 +69,7 @@ changes team past s here x y at change k = go change
     go (Change.Hold c) = same (ap (λ (w : Written). w.promises) c.written) (ap (λ (p : Process). p.vote.promised) c.process)
     go (Change.Take c) = same (ap (λ (w : Written). w.promises) c.written) (ap (λ (p : Process). p.vote.promised) c.process)
     go (Change.Make c) = same (ap (λ (w : Written). w.promises) c.written) (ap (λ (p : Process). p.vote.promised) c.process)
+    go (Change.Deliver c) = same (ap (λ (w : Written). w.promises) c.written) (ap (λ (p : Process). p.vote.promised) c.process)
     go (Change.Raise c) = same (ap (λ (w : Written). w.promises) c.written) (ap (λ (p : Process). p.vote.promised) c.process)
 
 pub latest_rules : (team : Team) → RulesOver team names latest

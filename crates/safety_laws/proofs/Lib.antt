@@ -5,9 +5,9 @@ pub mod Sent
 pub mod Timings
 pub mod ClockLaw
 pub mod DelayLaw
-pub mod SafeRows
 mod ClockWorked
 pub mod Given
+pub mod Delivers
 pub mod Effects
 pub mod Events
 pub mod Stack
@@ -32,11 +32,16 @@ pub mod Turns
 pub mod Ballots
 pub mod NextDecisions
 pub mod MadeLists
+pub mod Marked
 pub mod Made
 pub mod MadeRules
 pub mod MadeTold
 pub mod SendsTold
+pub mod LinesTold
 pub mod Seen
+pub mod LinesSeen
+pub mod RowsInTurn
+pub mod RowsAscend
 pub mod MadeLines
 pub mod Once
 pub mod Supports
@@ -71,6 +76,10 @@ pub mod Acknowledged
 pub mod Silent
 pub mod ListsAt
 pub mod ListLaws
+pub mod PassedLists
+pub mod Passed
+pub mod DeliveryLaws
+pub mod TablesOf
 mod Worked
 mod SendsWorked
 mod ListsWorked

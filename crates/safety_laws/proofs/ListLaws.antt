@@ -36,7 +36,7 @@ reported_too team = stack team (with_ids team) reported (ids_too team) (rests_on
 lists_too : (team : Team) → LawRules team (before_beginnings team)
 lists_too team = stack team (with_reported team) lists (reported_too team) (rests_on team (Both (of_groups team) reported) (with_reported team) lists (reports_part team) (lists_rules team))
 
-beginnings_too : (team : Team) → LawRules team (with_beginnings team)
+pub beginnings_too : (team : Team) → LawRules team (with_beginnings team)
 beginnings_too team = stack team (before_beginnings team) beginnings (lists_too team) (beginnings_rules team)
 
 -- in every schedule

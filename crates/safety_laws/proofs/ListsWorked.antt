@@ -4,6 +4,7 @@
 use Rattle.std.proofs.Common.{◌≡◌, refl, sym, ap, subst, inl, inr, ℕ, ◌+◌, ◌/◌, ◌≤◌, ◌<◌, nat_le, Bool, true, false, List, [], ◌∷◌, map, take, drop, length, count_by, Option, Some, None, arith}
 use Rattle.std.specs.Option.{option_map}
 use Rattle.std.proofs.lemmas.Option.{same_Some}
+use Rattle.tw_types.specs.Deliveries.{run_passed, earlies_marked}
 use Rattle.tw_types.specs.declared.ballot.Ballot.{Ballot}
 use Rattle.tw_types.specs.declared.message.Decision.{Decision}
 use Rattle.tw_types.specs.declared.message.Entry.{Entry}
@@ -140,12 +141,12 @@ all = made_12_1 ∷ made_12_0 ∷ made_9_0 ∷ in_7
 
 -- the schedule is such as the laws speak of,
 admissible : Admissible team_a later
-unfolding is_up step kind_rule timed_duties duties appended_list appended_kept
+unfolding is_up step kind_rule timed_duties duties appended_list appended_kept run_passed earlies_marked
 admissible = ((((((((((((((((((((((((((((((((((tt, refl), refl), refl), refl), refl), refl), refl), refl), refl), refl), refl), refl), refl), refl), refl), refl), refl), refl), refl), refl), refl), refl), refl), refl), refl), refl), refl), refl), refl), refl), refl), refl), refl), refl)
 
 -- and this is made in it, with these lists
 makes : (history team_a later).makes ≡ all
-unfolding is_up step kind_rule timed_duties duties appended_list appended_kept
+unfolding is_up step kind_rule timed_duties duties appended_list appended_kept run_passed earlies_marked
 makes = refl
 
 -- so what is said of these makes is said of the history
@@ -246,31 +247,32 @@ abbrev told : World → ℕ → Option (Option (ℕ × ℕ) × Bool × Log)
 told w who = option_map (λ (p : Process). (option_map (λ (d : Decision). (d.group, d.turn)) (view_decision p.belief), is_informed p.belief, p.log)) (w.process_of who)
 
 -- while group 12 is voted on, 1 has the list of 7.3, and 0 that of 9.0
-log_of_0 : told (world team_a in_ballot) 0 ≡ Some (Some (9, 0), true, record { base = 0; entries = three_updates; passed = 0 })
-unfolding is_up step kind_rule timed_duties duties appended_list appended_kept
+-- 0 passed the first while it was up in 7.2, and 1 all three as it made 7.3; group 9 hasn't started
+log_of_0 : told (world team_a in_ballot) 0 ≡ Some (Some (9, 0), true, record { base = 0; entries = three_updates; passed = 1 })
+unfolding is_up step kind_rule timed_duties duties appended_list appended_kept run_passed earlies_marked
 log_of_0 = refl
 
-log_of_1 : told (world team_a in_ballot) 1 ≡ Some (Some (7, 3), true, record { base = 0; entries = three_updates; passed = 0 })
-unfolding is_up step kind_rule timed_duties duties appended_list appended_kept
+log_of_1 : told (world team_a in_ballot) 1 ≡ Some (Some (7, 3), true, record { base = 0; entries = three_updates; passed = 3 })
+unfolding is_up step kind_rule timed_duties duties appended_list appended_kept run_passed earlies_marked
 log_of_1 = refl
 
 -- 2, which heard neither, is in 7.1, and has nothing
 log_of_2 : told (world team_a in_ballot) 2 ≡ Some (Some (7, 1), true, record { base = 0; entries = []; passed = 0 })
-unfolding is_up step kind_rule timed_duties duties appended_list appended_kept
+unfolding is_up step kind_rule timed_duties duties appended_list appended_kept run_passed earlies_marked
 log_of_2 = refl
 
 -- before group 9 was made 0 had one update, of the list of 7.2
-log_before : told (world team_a (drop 4 in_ballot)) 0 ≡ Some (Some (7, 2), true, record { base = 0; entries = one_update; passed = 0 })
-unfolding is_up step kind_rule timed_duties duties appended_list appended_kept
+log_before : told (world team_a (drop 4 in_ballot)) 0 ≡ Some (Some (7, 2), true, record { base = 0; entries = one_update; passed = 1 })
+unfolding is_up step kind_rule timed_duties duties appended_list appended_kept run_passed earlies_marked
 log_before = refl
 
 -- these are what they know of the lists of these decisions
 known_to_0 : option_map (known all) ((world team_a (drop 4 in_ballot)).process_of 0) ≡ Some one_update
-unfolding is_up step kind_rule timed_duties duties appended_list appended_kept
+unfolding is_up step kind_rule timed_duties duties appended_list appended_kept run_passed earlies_marked
 known_to_0 = refl
 
 known_to_1 : option_map (known all) ((world team_a in_ballot).process_of 1) ≡ Some three_updates
-unfolding is_up step kind_rule timed_duties duties appended_list appended_kept
+unfolding is_up step kind_rule timed_duties duties appended_list appended_kept run_passed earlies_marked
 known_to_1 = refl
 
 -- the ballot of group 12: its number, its best decision and the reports
@@ -281,7 +283,7 @@ abbrev in_12 : ℕ × Option Decision × List Report
 in_12 = (12, Some group_9, reports_12)
 
 ballot : option_map (λ (p : Process). option_map votes p.ballot) ((world team_a in_ballot).process_of 0) ≡ Some (Some in_12)
-unfolding is_up step kind_rule timed_duties duties appended_list appended_kept
+unfolding is_up step kind_rule timed_duties duties appended_list appended_kept run_passed earlies_marked
 ballot = refl
 
 -- Both reports go with it: 0's, and that of 1, which is in a lower group and has a seat in 9.0. One of 2, which has none, wouldn't.
@@ -321,7 +323,7 @@ not_silent none = let empty = none.1.1.1.0 (omega arith) (omega arith) in absurd
 
 -- and where nothing was appended yet, the list is empty
 first_makes : (history team_a (drop 9 ordered)).makes ≡ made_7_1 ∷ made_7_0 ∷ []
-unfolding is_up step kind_rule timed_duties duties appended_list appended_kept
+unfolding is_up step kind_rule timed_duties duties appended_list appended_kept run_passed earlies_marked
 first_makes = refl
 
 none_added : AddsLast (history team_a (drop 9 ordered)).makes made_7_1

@@ -3,6 +3,7 @@ use Rattle.std.proofs.Common.{◌≡◌, refl, sym, ap, subst, ◌∙◌, inl, �
 use Rattle.std.specs.List.{AllByRecursion}
 use Rattle.std.specs.Option.{option_map}
 use Rattle.std.proofs.lemmas.Bool.Decides.{nat_tests}
+use Rattle.std.proofs.lemmas.Option.{same_Some}
 use Rattle.tw_types.specs.declared.team.Team.{Team}
 use Rattle.tw_types.specs.declared.ballot.Ballot.{Ballot}
 use Rattle.tw_types.specs.declared.datagram.Body.{Body}
@@ -316,6 +317,11 @@ module _ (team : Team) (past : List Step) (s : Step) (here : Here) (x y : State)
         best = h.best;
       }
 
+  -- nothing is sent either, and what is held stays
+  same_process : y.written.promises ≡ x.written.promises → y.written.makes ≡ x.written.makes → y.written.sent ≡ x.written.sent → y.process.identity ≡ x.process.identity → y.process.belief ≡ x.process.belief → y.process.ballot ≡ x.process.ballot
+      → held_decision y.process ≡ held_decision x.process → Holds (made team) steps (world team past) s.who y
+  same_process promises makes sent identity belief ballot held = same_lists promises makes (same_sent makes sent) (same_maker promises makes identity belief ballot (rw held k.own.keeps.held))
+
   -- ---- a ballot after the effect
 
   newest_tells : (given : Promise) (older : List Promised) → x.written.promises ≡ promise_item here.life here.step given ∷ older → TellsDecision x.written.makes (promise_item here.life here.step given)
@@ -380,11 +386,8 @@ module _ (team : Team) (past : List Step) (s : Step) (here : Here) (x y : State)
   ballot_after : BallotReason here x y → BallotAfter
   ballot_after (Begins given older is promised owned informed member decision ballot) = record {
     best = rw (ballot, decision) (best_begins (last_decision x.process) refl);
-    holds = λ b e. let same : begun given ≡ b = some_same (sym ballot ∙ e) in subst (BallotHolds team steps x.written s.who x.process) same (ballot_begins given older is owned informed member);
+    holds = λ b e. let same : begun given ≡ b = same_Some (begun given) b (sym ballot ∙ e) in subst (BallotHolds team steps x.written s.who x.process) same (ballot_begins given older is owned informed member);
   }
-    where
-      some_same : {X : Type 0} {a b : X} → Some a ≡ Some b → a ≡ b
-      some_same e = cc
   ballot_after (Adds given head mail want ballot) = go x.process.ballot refl
     where
       go : (o : Option Ballot) → x.process.ballot ≡ o → BallotAfter
@@ -400,18 +403,17 @@ module _ (team : Team) (past : List Step) (s : Step) (here : Here) (x y : State)
 
   -- ---- each effect
 
-  changed : Change here x y → Holds (made team) steps (world team past) s.who y
+  pub changed : Change here x y → Holds (made team) steps (world team past) s.who y
   changed (Change.Keep c) = same_lists c.promises c.makes
       (rw c.sent (all_joined (λ (z : Dispatch). WasMadeIfAny y.written.makes (carried z.datagram.body)) x.written.sent (map (sent_at here.step.t) c.new)
       (subst (λ ms. AllByRecursion (λ (z : Dispatch). WasMadeIfAny ms (carried z.datagram.body)) x.written.sent) (sym c.makes) k.history.carried_made)
       (all_mapped (λ (z : Dispatch). WasMadeIfAny y.written.makes (carried z.datagram.body)) (sent_at here.step.t) c.new
       (each_weaker (IsToldBy here y) (λ (d : ℕ × Datagram). WasMadeIfAny y.written.makes (carried d.1.body)) c.new (λ d told. told_made d.1.body c.promises c.makes c.belief told.says) c.told))))
       (same_maker c.promises c.makes c.identity c.belief c.ballot (held_kept c.waits))
-  changed (Change.Raise c) =
-      let promises : y.written.promises ≡ x.written.promises = ap (λ (w : Written). w.promises) c.written in
-      let makes : y.written.makes ≡ x.written.makes = ap (λ (w : Written). w.makes) c.written in
-      same_lists promises makes (same_sent makes (ap (λ (w : Written). w.sent) c.written))
-      (same_maker promises makes (ap (λ (p : Process). p.identity) c.process) (ap (λ (p : Process). p.belief) c.process) (ap (λ (p : Process). p.ballot) c.process) (rw c.process k.own.keeps.held))
+  changed (Change.Deliver c) = same_process (ap (λ (w : Written). w.promises) c.written) (ap (λ (w : Written). w.makes) c.written) (ap (λ (w : Written). w.sent) c.written)
+      (ap (λ (p : Process). p.identity) c.process) (ap (λ (p : Process). p.belief) c.process) (ap (λ (p : Process). p.ballot) c.process) (ap held_decision c.process)
+  changed (Change.Raise c) = same_process (ap (λ (w : Written). w.promises) c.written) (ap (λ (w : Written). w.makes) c.written) (ap (λ (w : Written). w.sent) c.written)
+      (ap (λ (p : Process). p.identity) c.process) (ap (λ (p : Process). p.belief) c.process) (ap (λ (p : Process). p.ballot) c.process) (ap held_decision c.process)
   changed (Change.Hold c) =
       let b = ballot_after c.reason in
       rw (c.written, c.process) (record {
@@ -495,6 +497,3 @@ module _ (team : Team) (past : List Step) (s : Step) (here : Here) (x y : State)
       made_ballot : (c : Makes here x y) → y.written.promises ≡ x.written.promises → MakeReason here c.making c.t x y → (o : Ballot) → y.process.ballot ≡ Some o → BallotHolds team steps y.written s.who x.process o
       made_ballot c promises (Next last is turn same ballot) o e = ballot_more team steps x.written y.written s.who x.process o (more_same x.written.promises y.written.promises promises) (k.own.ballot o (sym ballot ∙ e))
       made_ballot c promises (Group ballot is full e same none) o is_some = absurd (cc)
-
-  pub made_changes : Holds (made team) steps (world team past) s.who y
-  made_changes = changed change

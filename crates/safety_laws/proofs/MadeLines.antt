@@ -10,6 +10,7 @@ use Rattle.tw_types.specs.declared.step.Step.{Step}
 use Rattle.tw_types.specs.declared.team.Team.{Team}
 use Rattle.tw_types.specs.Printed.{made_printed}
 use Rattle.tw_types.specs.Row.{Row, Made}
+use Rattle.tw_machine.specs.Applied.{Meaning}
 use Rattle.tw_machine.specs.History.{Promised, Make, history}
 use Rattle.tw_machine.specs.Places.{Each, Exists}
 use Rattle.tw_machine.specs.Rows.{rows_of}
@@ -93,8 +94,8 @@ pub record ArePrinted (rows : List Row) (makes : List Make) : Type 0 where
   pub each_line : Each rows (λ i r. r.made ≢ None → (k : Make) × In k makes × IsMadeLineOf r k)
   pub each_make : (k : Make) → In k makes → Exists rows (λ i r. IsMadeLineOf r k)
 
-pub are_printed : (team : Team) (past : List Step) → Admissible team past → ArePrinted (rows_of team past) (history team past).makes
-are_printed team past ok = record { each_line = made_lines_seen team past ok; each_make = makes_printed team past ok }
+pub are_printed : {Content : Type 0} (meaning : Meaning Content) (team : Team) (past : List Step) → Admissible team past → ArePrinted (rows_of meaning team past) (history team past).makes
+are_printed meaning team past ok = record { each_line = made_lines_seen meaning team past ok; each_make = makes_printed meaning team past ok }
 
 module _ (rows : List Row) (makes : List Make) (printed : ArePrinted rows makes) where
   -- a line that makes a group is that of a make that begins it

@@ -16,7 +16,7 @@ use Rattle.safety_laws.specs.Names.{promise_name, make_name, IsNamed, AreNamed}
 use Rattle.safety_laws.specs.Promises.{of_promises}
 use Rattle.safety_laws.proofs.Induction.{start_by, follows, meets}
 use Rattle.safety_laws.proofs.Lists.{each_weaker}
-use Rattle.safety_laws.proofs.Made.{made_changes}
+use Rattle.safety_laws.proofs.Made.{changed}
 use Rattle.safety_laws.proofs.Names.{starts_by, is_again_later}
 use Rattle.safety_laws.proofs.Stack.{RulesOver}
 
@@ -67,5 +67,5 @@ made_rules team = record {
   waits = λ past s w sound ok before k. record { tells = k.tells; arise = k.arise; under = k.under; carried_made = k.carried_made };
   remains = λ past s w who p sound ok same before h own k. remains team past s w who p same k;
   begins = λ past s w mode sound ok act more before k. begins team past s w mode ok act more before.names;
-  changes = λ past s here x y at mailed change before after k. made_changes team past s here x y at mailed change before after k;
+  changes = λ past s here x y at mailed change before after k. changed team past s here x y at mailed change before after k change;
 }

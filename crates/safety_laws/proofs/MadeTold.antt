@@ -14,6 +14,8 @@ use Rattle.tw_types.specs.declared.datagram.Want.{Want}
 use Rattle.tw_types.specs.declared.message.Decision.{Decision}
 use Rattle.tw_types.specs.declared.answer.Reason.{Reason}
 use Rattle.tw_types.specs.declared.answer.Reason.TheVariants as reasons
+use Rattle.tw_types.specs.Decisions.{or_none}
+use Rattle.tw_types.specs.Flag.{is_up}
 use Rattle.tw_types.specs.Refusals.{first_refusal}
 use Rattle.tw_types.specs.Votes.{Promise, Making}
 use Rattle.tw_types.specs.Ballots.{wants}
@@ -34,6 +36,7 @@ use Rattle.tw_machine.specs.Taking.{take_decision}
 use Rattle.tw_machine.specs.Electing.{answer_tests, election_answered, answer_election, ballot_dropped, has_spent_ballot, drop_ballot, holds_election, election_begun, begin_election}
 use Rattle.tw_machine.specs.Deciding.{decision_made, has_turn, turn_taken, take_turn, next_made}
 use Rattle.tw_machine.specs.Grouping.{promise_added, take_promise, make_group}
+use Rattle.tw_machine.specs.Delivering.{all_delivered, deliver}
 use Rattle.tw_machine.specs.Beating.{is_due, beat_marked, is_repeated, repeat_decision, ask_again, beat_given, give_beat}
 use Rattle.tw_machine.specs.Rules.{kind_rule, rule}
 use Rattle.tw_machine.specs.Duties.{timed_duties, duties_if_timed, duties}
@@ -123,11 +126,19 @@ election_none team now t r = go (holds_election team now t r.process)
     go true = record { line = refl; told = refl }
     go false = same r
 
+deliver_none : (team : Team) (t : ℕ) (r : Run) → MakesNone r (deliver team t r)
+deliver_none team t r = go (is_up team r.process.vote r.process.belief (Some t))
+  where
+    go : (up : Bool) → MakesNone r (cond up (all_delivered team (or_none (last_decision r.process)) r) r)
+    go true = record { line = refl; told = refl }
+    go false = same r
+
 timed_agrees : (team : Team) (now : Moment) (t : ℕ) (r : Run) → IsIdle r → now.reading ≡ Some t → Agrees now (timed_duties team now t r)
 unfolding timed_duties
 timed_agrees team now t r idle reading =
     let c : Run = make_group team now t (take_turn team now t (drop_ballot team t r)) in
-    still_agrees now c (begin_election team now t c) (election_none team now t c) (turn_or_group_agrees team now t r idle reading)
+    let d : Run = begin_election team now t c in
+    still_agrees now d (deliver team t d) (deliver_none team t d) (still_agrees now c d (election_none team now t c) (turn_or_group_agrees team now t r idle reading))
 
 if_timed_agrees : (team : Team) (now : Moment) (reading : Option ℕ) (r : Run) → IsIdle r → now.reading ≡ reading → Agrees now (duties_if_timed team now reading r)
 if_timed_agrees team now None r idle is = idle_agrees now r idle

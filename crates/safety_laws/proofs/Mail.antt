@@ -48,6 +48,7 @@ changes here x y me (Change.Give c) k =
 changes here x y me (Change.Hold c) k = rw c.written k
 changes here x y me (Change.Take c) k = rw c.written k
 changes here x y me (Change.Make c) k = rw c.written k
+changes here x y me (Change.Deliver c) k = rw c.written k
 changes here x y me (Change.Raise c) k = rw c.written k
 
 pub mail_rules : (team : Team) → RulesOver team names mail

@@ -61,6 +61,7 @@ changes team past s here x y at change before k = go change
     go (Change.Hold c) = same (ap (λ (w : Written). w.makes) c.written) (ap (λ (p : Process). p.vote.support) c.process) (ap (λ (p : Process). p.identity) c.process) (λ lost. ap (λ (p : Process). is_informed p.belief) (sym c.process) ∙ lost)
     go (Change.Take c) = same (ap (λ (w : Written). w.makes) c.written) (ap (λ (p : Process). p.vote.support) c.process) (ap (λ (p : Process). p.identity) c.process)
         (λ lost. absurd (let informed : true ≡ false = ap (λ (p : Process). is_informed p.belief) (sym c.process) ∙ lost in cc))
+    go (Change.Deliver c) = same (ap (λ (w : Written). w.makes) c.written) (ap (λ (p : Process). p.vote.support) c.process) (ap (λ (p : Process). p.identity) c.process) (λ lost. ap (λ (p : Process). is_informed p.belief) (sym c.process) ∙ lost)
     go (Change.Raise c) = same (ap (λ (w : Written). w.makes) c.written) (ap (λ (p : Process). p.vote.support) c.process) (ap (λ (p : Process). p.identity) c.process) (λ lost. ap (λ (p : Process). is_informed p.belief) (sym c.process) ∙ lost)
     go (Change.Make c) =
         let new = make_item (member_of x.process.identity) here.life here.step x.written.makes c.making in

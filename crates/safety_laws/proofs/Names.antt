@@ -113,6 +113,13 @@ remains past s w who p same k = record {
   makes = rw same k.makes;
 }
 
+-- a start reads above all that its process read before
+pub above_read : (team : Team) (past : List Step) (s : Step) (mode : Mode) → Admissible team (s ∷ past) → s.act ≡ start_by mode → (t h : ℕ) → HasRead past s.who t h → h < s.h
+above_read team past s mode ok act t h read =
+    let met = meets team past s (follows team past s ok) in
+    let may : may_start past s ≡ true = ap (λ b. not b || may_start past s) (sym (starts_by s mode act)) ∙ met.start in
+    start_above s.who s.h past t h (start_parts past s may).0 read
+
 -- an item that was written down before a start is of an earlier life
 pub earlier_life : (team : Team) (past : List Step) (s : Step) (mode : Mode) (name : Name) → Admissible team (s ∷ past) → s.act ≡ start_by mode → life s.who (s ∷ past) ≡ suc (life s.who past)
     → IsNamed past name → name.who ≡ s.who → IsOfLife (life s.who (s ∷ past)) (started s.who mode s.h) s.t name

@@ -26,6 +26,7 @@ greatest_stays here x y (Change.Give c) = rw c.process (same_greatest x.process.
 greatest_stays here x y (Change.Hold c) = rw c.process (same_greatest x.process.timing.clock.greatest)
 greatest_stays here x y (Change.Take c) = rw c.process (same_greatest x.process.timing.clock.greatest)
 greatest_stays here x y (Change.Make c) = rw c.process (same_greatest x.process.timing.clock.greatest)
+greatest_stays here x y (Change.Deliver c) = rw c.process (same_greatest x.process.timing.clock.greatest)
 greatest_stays here x y (Change.Raise c) = rw c.process (same_greatest x.process.timing.clock.greatest)
 
 at_most_later : (t : ℕ) (a b : Option ℕ) → NotBelow a b → IsAtMost t a → IsAtMost t b

@@ -168,6 +168,7 @@ changes team past s here x y at change before k = go change
     go (Change.Hold c) = same (ap (λ (w : Written). w.sends) c.written) (ap (λ (p : Process). p.next_seq) c.process) (λ lost. ap (λ (p : Process). is_informed p.belief) (sym c.process) ∙ lost)
     go (Change.Take c) = same (ap (λ (w : Written). w.sends) c.written) (ap (λ (p : Process). p.next_seq) c.process) (λ lost. absurd (let no : true ≡ false = ap (λ (p : Process). is_informed p.belief) (sym c.process) ∙ lost in cc))
     go (Change.Make c) = same (ap (λ (w : Written). w.sends) c.written) (ap (λ (p : Process). p.next_seq) c.process) (λ lost. absurd (let no : true ≡ false = ap (λ (p : Process). is_informed p.belief) (sym c.process) ∙ lost in cc))
+    go (Change.Deliver c) = same (ap (λ (w : Written). w.sends) c.written) (ap (λ (p : Process). p.next_seq) c.process) (λ lost. ap (λ (p : Process). is_informed p.belief) (sym c.process) ∙ lost)
     go (Change.Raise c) = same (ap (λ (w : Written). w.sends) c.written) (ap (λ (p : Process). p.next_seq) c.process) (λ lost. ap (λ (p : Process). is_informed p.belief) (sym c.process) ∙ lost)
 
 pub sends_rules : (team : Team) → RulesOver team (of_groups team) sends

@@ -370,6 +370,7 @@ module _ (team : Team) (past : List Step) (s : Step) (here : Here) (x y : State)
   changed (Change.Keep c) = same_lists c.makes c.belief (same_ballot c.ballot)
   changed (Change.Give c) = same_lists (ap (λ (w : Written). w.makes) c.written) (ap (λ (p : Process). p.belief) c.process) (same_ballot (ap (λ (p : Process). p.ballot) c.process))
   changed (Change.Hold c) = same_lists (ap (λ (w : Written). w.makes) c.written) (ap (λ (p : Process). p.belief) c.process) (held_unmade c.reason)
+  changed (Change.Deliver c) = same_lists (ap (λ (w : Written). w.makes) c.written) (ap (λ (p : Process). p.belief) c.process) (same_ballot (ap (λ (p : Process). p.ballot) c.process))
   changed (Change.Raise c) = same_lists (ap (λ (w : Written). w.makes) c.written) (ap (λ (p : Process). p.belief) c.process) (same_ballot (ap (λ (p : Process). p.ballot) c.process))
   changed (Change.Take c) =
       let eq : y.written.makes ≡ x.written.makes = ap (λ (w : Written). w.makes) c.written in

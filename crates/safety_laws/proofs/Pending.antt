@@ -1,5 +1,5 @@
 -- What is pending stays settled.
-use Rattle.std.proofs.Common.{◌≡◌, refl, ap, ◌∙◌, ℕ, ◌+◌, Bool, true, false, not, cond, ◌||◌, List, [], ◌∷◌, ◌++◌, filter, Option, Some, None, arith}
+use Rattle.std.proofs.Common.{◌≡◌, refl, sym, ap, ◌∙◌, ℕ, ◌+◌, Bool, true, false, not, cond, ◌||◌, List, [], ◌∷◌, ◌++◌, filter, Option, Some, None, arith}
 use Rattle.std.specs.Prelude.{nat_le, nat_lt}
 use Rattle.std.specs.List.{AllByRecursion}
 use Rattle.std.specs.Option.{option_map_or}
@@ -19,10 +19,13 @@ use Rattle.tw_types.specs.Waiting.{Waiting, Filled, Stored, Known, OutOfRange, i
 use Rattle.tw_machine.specs.Deciding.{supporting}
 use Rattle.tw_machine.specs.Entering.{is_overtaken, let_go_below, entered}
 use Rattle.group_maker.proofs.Ranges.{all_kept, all_pass}
+use Rattle.safety_laws.specs.Beginnings.{unmarked}
 use Rattle.safety_laws.specs.Effects.{State, Here, Waits, Stays, Puts, Fills, Goes, ForTaking, ForGroup, Change}
 use Rattle.safety_laws.specs.Pending.{IsAwaited, NoneTwice, IsSettled, pending}
+use Rattle.safety_laws.proofs.Delivers.{pending_delivers}
 use Rattle.safety_laws.proofs.FirstDecisions.{same_member_of}
 use Rattle.safety_laws.proofs.Lists.{each_weaker, each_both, found_in}
+use Rattle.safety_laws.proofs.Marked.{each_alike, same_id, once_alike}
 use Rattle.safety_laws.proofs.Stack.{LawRules}
 
 -- ---- lists in which no id comes twice
@@ -179,6 +182,12 @@ last_settles p q d view is k =
       once = rw same (once_kept (stays_pending d) p.waiting.pending k.once);
     }
 
+-- an update is awaited with its mark or without
+still_awaited : (d : Decision) (a b : Kept) → unmarked b ≡ unmarked a → IsAwaited d a → IsAwaited d b
+still_awaited d a b same k =
+    let id : b.entry.id ≡ a.entry.id = same_id a b same in
+    record { seat = k.seat; there = k.there; sender_is = k.sender_is ∙ ap sender (sym id); low = rw id k.low; high = rw id k.high }
+
 changes : (here : Here) (x y : State) → Change here x y → IsSettled x.process → IsSettled y.process
 changes here x y (Change.Keep c) k = go c.waits
   where
@@ -194,6 +203,10 @@ changes here x y (Change.Keep c) k = go c.waits
     go (ForGroup ballot best from there told number is hold) = stays_as (ap (λ (w : Waiting). w.pending) is)
 changes here x y (Change.Give c) k = same_pending x.process y.process (ap (λ (p : Process). p.belief) c.process) (ap (λ (p : Process). p.waiting.pending) c.process) k
 changes here x y (Change.Hold c) k = same_pending x.process y.process (ap (λ (p : Process). p.belief) c.process) (ap (λ (p : Process). p.waiting.pending) c.process) k
+changes here x y (Change.Deliver c) k = record {
+  awaited = rw (ap (λ (p : Process). p.belief) c.process) (each_alike (IsAwaited (or_none (view_decision x.process.belief))) (still_awaited (or_none (view_decision x.process.belief))) x.process.waiting.pending y.process.waiting.pending (pending_delivers here x y c) k.awaited);
+  once = once_alike x.process.waiting.pending y.process.waiting.pending (pending_delivers here x y c) k.once;
+}
 changes here x y (Change.Raise c) k = rw c.process k
 changes here x y (Change.Take c) k = rw c.process (last_settles x.process (entered c.taken_decision x.process) c.taken_decision refl refl k)
 changes here x y (Change.Make c) k = rw c.process (last_settles x.process (record (entered c.making.decision (supporting c.t x.process)) { ballot = y.process.ballot }) c.making.decision refl refl k)

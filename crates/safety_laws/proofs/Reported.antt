@@ -22,6 +22,7 @@ use Rattle.safety_laws.specs.Reported.{ReportsAgain, IsSeated, IsInformedPromise
 use Rattle.safety_laws.specs.Still.{SaysTheSame}
 use Rattle.safety_laws.proofs.Lists.{each_weaker}
 use Rattle.safety_laws.proofs.Stack.{RulesOver}
+use Rattle.safety_laws.proofs.MadeLists.{has_last}
 
 -- the report of an informed process is by an informed one
 by_informed : (belief : Belief) (r : Report) → r.kind ≡ kind_of belief → is_informed belief ≡ true → is_by_informed r ≡ true
@@ -97,6 +98,7 @@ changes team past s here x y change before k = go change
     }
     go (Change.Hold c) = record { history = rw c.written k.history; own = same_process x.process y.process (ap (λ (p : Process). p.belief) c.process) (ap (λ (p : Process). p.log) c.process) k.own; others = k.others }
     go (Change.Raise c) = record { history = same_promises x.written y.written (ap (λ (w : Written). w.promises) c.written) k.history; own = rw c.process k.own; others = k.others }
+    go (Change.Deliver c) = record { history = rw c.written (record { still = k.history.still; seated = k.history.seated; informed = k.history.informed }); own = is_known y.process (ap (λ (p : Process). is_informed p.belief) c.process ∙ has_last x.process c.last c.last_is); others = k.others }
     go (Change.Take c) = record { history = rw c.written k.history; own = is_known y.process (ap (λ (p : Process). is_informed p.belief) c.process); others = k.others }
     go (Change.Make c) = record { history = same_promises x.written y.written (ap (λ (w : Written). w.promises) c.written) k.history; own = is_known y.process (ap (λ (p : Process). is_informed p.belief) c.process); others = k.others }
 

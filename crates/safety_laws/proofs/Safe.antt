@@ -1,4 +1,4 @@
--- The rows of each schedule are safe.
+-- The rows of each schedule are safe so far: there is one started group at a reading, and its support is leased.
 use Rattle.std.proofs.Common.{◌≡◌, refl, sym, ap, subst, ◌∙◌, inl, inr, ℕ, zero, suc, ◌+◌, ◌≤◌, ◌<◌, true, List, [], ◌∷◌, ◌++◌, length, Some, slice_get, arith}
 use Rattle.std.proofs.lemmas.List.{length-append}
 use Rattle.std.proofs.lemmas.Option.{same_Some}
@@ -7,10 +7,11 @@ use Rattle.tw_types.specs.Team.{IsSound}
 use Rattle.tw_types.specs.declared.message.Member.{Member}
 use Rattle.tw_types.specs.declared.step.Step.{Step}
 use Rattle.tw_types.specs.Row.{Row}
+use Rattle.tw_machine.specs.Applied.{Meaning}
 use Rattle.tw_machine.specs.History.{Make, Up, history}
 use Rattle.tw_machine.specs.Places.{Each, Exists}
 use Rattle.tw_machine.specs.Rows.{row_of, rows_of}
-use Rattle.tw_machine.specs.SafeRows.{majority, life_of, AtLeast, IsOfStarted, OneStartedGroup, HasLease, LeasedSupport, SafeRows}
+use Rattle.tw_machine.specs.SafeRows.{majority, life_of, AtLeast, IsOfStarted, OneStartedGroup, HasLease, LeasedSupport, SafeSoFar}
 use Rattle.tw_machine.specs.Started.{members_of, started_at}
 use Rattle.tw_machine.specs.World.{Admissible}
 use Rattle.safety_laws.specs.Effects.{written}
@@ -27,7 +28,6 @@ use Rattle.safety_laws.proofs.Lists.{of_each}
 use Rattle.safety_laws.proofs.MadeLines.{ArePrinted, are_printed, members_of_made, started_is_made}
 use Rattle.safety_laws.proofs.OneGroupLists.{IsFirstOf, none_above, own_started}
 use Rattle.safety_laws.proofs.Quorums.{Agree}
-use Rattle.safety_laws.proofs.SafeRows.{safe_deliveries}
 use Rattle.safety_laws.proofs.Seen.{flags_seen}
 
 -- ---- places of lists
@@ -85,19 +85,24 @@ module _ (team : Team) (past : List Step) (sound : IsSound team) (ok : Admissibl
       member_is : (m : Member) (who incarnation : ℕ) → m.who ≡ who → m.incarnation ≡ incarnation → m ≡ record { who = who; incarnation = incarnation }
       member_is m who incarnation p q = ap (λ (w : ℕ). record { who = w; incarnation = m.incarnation }) p ∙ ap (λ (i : ℕ). record { who = who; incarnation = i }) q
 
-  of_started : (r : Row) (u : Up) → In u (history team past).ups → IsFlagOf r u → (reading : ℕ) → r.reading ≡ Some reading → IsOfStarted team (rows_of team past) r reading
+module _ {Content : Type 0} (meaning : Meaning Content) (team : Team) (past : List Step) (sound : IsSound team) (ok : Admissible team past) where
+  of_started : (r : Row) (u : Up) → In u (history team past).ups → IsFlagOf r u → (reading : ℕ) → r.reading ≡ Some reading → IsOfStarted team (rows_of meaning team past) r reading
   of_started r u i flag reading is = record {
-    started = ap (started_at (rows_of team past)) (sym same) ∙ started_is_made team (history team past).promises (rows_of team past) (history team past).makes printed known.once known.makes.arise u.reading u.last up.made up.started
+    started = ap (started_at (rows_of meaning team past)) (sym same)
+        ∙ started_is_made team (history team past).promises (rows_of meaning team past) (history team past).makes printed groups.once groups.makes.arise u.reading u.last up.made up.started
         (λ j there turn start. omega (arith, none_above team (history team past).promises (history team past).makes agree u up j there turn start, up.group)) ∙ ap Some group;
-    has_majority = rw (ap (members_of (rows_of team past)) (sym group) ∙ list) (omega (arith, ap length first.1.last_members, first.1.enough));
-    named = rw (ap (members_of (rows_of team past)) (sym group) ∙ list) (subst (λ ms. Exists ms (λ k m. m ≡ life_of r)) first.1.last_members (name_there (members first.0.making.decision) first.1.named));
+    has_majority = rw (ap (members_of (rows_of meaning team past)) (sym group) ∙ list) (omega (arith, ap length first.1.last_members, first.1.enough));
+    named = rw (ap (members_of (rows_of meaning team past)) (sym group) ∙ list) (subst (λ ms. Exists ms (λ k m. m ≡ life_of r)) first.1.last_members (name_there (members first.0.making.decision) first.1.named));
   }
     where
-      up : WasUp team (history team past).makes u
-      up = was_up u i
+      groups : OfGroups team past (written team past)
+      groups = known team past sound ok
 
-      printed : ArePrinted (rows_of team past) (history team past).makes
-      printed = are_printed team past ok
+      up : WasUp team (history team past).makes u
+      up = was_up team past sound ok u i
+
+      printed : ArePrinted (rows_of meaning team past) (history team past).makes
+      printed = are_printed meaning team past ok
 
       agree : Agree team (history team past).promises (history team past).makes
       agree = agreed team past sound ok
@@ -111,22 +116,23 @@ module _ (team : Team) (past : List Step) (sound : IsSound team) (ok : Admissibl
       first : (first : Make) × IsFirstOf team (history team past).makes u first
       first = own_started team (history team past).promises (history team past).makes agree u up
 
-      list : members_of (rows_of team past) u.last.group ≡ members u.last
-      list = members_of_made team (history team past).promises (rows_of team past) (history team past).makes printed known.once known.makes.arise u.last up.made
+      list : members_of (rows_of meaning team past) u.last.group ≡ members u.last
+      list = members_of_made team (history team past).promises (rows_of meaning team past) (history team past).makes printed groups.once groups.makes.arise u.last up.made
 
       name_there : (ms : List Member) → In u.member ms → Exists ms (λ k m. m ≡ life_of r)
-      name_there ms there = let k = in_exists ms u.member there in (k.0, k.1, k.2, k.3 ∙ name_of r u i flag)
+      name_there ms there = let k = in_exists ms u.member there in (k.0, k.1, k.2, k.3 ∙ name_of team past sound ok r u i flag)
 
-  pub one_started_group : OneStartedGroup team (rows_of team past)
-  one_started_group i r at reading up is = let u = flags_seen team past i r at up in of_started r u.0 u.1 u.2 reading is
+  pub one_started_group : OneStartedGroup team (rows_of meaning team past)
+  one_started_group i r at reading up is = let u = flags_seen meaning team past i r at up in of_started r u.0 u.1 u.2 reading is
 
 -- ---- leased support
 
 -- of a row that is the last one so far
-last_leased : (team : Team) (past : List Step) (i : ℕ) (r : Row) (reading : ℕ) → IsSound team → Admissible team past → slice_get (rows_of team past) i ≡ Some r → length (rows_of team past) ≤ suc i → r.up ≡ true → r.reading ≡ Some reading
-    → AtLeast (majority team) (rows_of team past) (HasLease team i r.group reading)
-last_leased team past i r reading sound ok at last up is =
-    let u = flags_seen team past i r at up in
+last_leased : {Content : Type 0} (meaning : Meaning Content) (team : Team) (past : List Step) (i : ℕ) (r : Row) (reading : ℕ) → IsSound team → Admissible team past
+    → slice_get (rows_of meaning team past) i ≡ Some r → length (rows_of meaning team past) ≤ suc i → r.up ≡ true → r.reading ≡ Some reading
+    → AtLeast (majority team) (rows_of meaning team past) (HasLease team i r.group reading)
+last_leased meaning team past i r reading sound ok at last up is =
+    let u = flags_seen meaning team past i r at up in
     let was = was_up team past sound ok u.0 u.1 in
     let by = leased team (history team past).promises (history team past).makes (agreed team past sound ok) u.0 was in
     let same : u.0.reading ≡ reading = same_Some u.0.reading reading (sym u.2.reading ∙ is) in
@@ -137,44 +143,42 @@ last_leased team past i r reading sound ok at last up is =
       each_has = λ k who e. has u.0 u.2 same who (by.each who (at_in by.processes k who e));
     }
   where
-    has : (u : Up) → IsFlagOf r u → u.reading ≡ reading → (who : ℕ) → (made : Make) × HasLeased team (history team past).makes u who made → Exists (rows_of team past) (λ j s. (s.who ≡ who) × HasLease team i r.group reading j s)
+    has : (u : Up) → IsFlagOf r u → u.reading ≡ reading → (who : ℕ) → (made : Make) × HasLeased team (history team past).makes u who made
+        → Exists (rows_of meaning team past) (λ j s. (s.who ≡ who) × HasLease team i r.group reading j s)
     has u flag same who (made, h) =
-        let line = (are_printed team past ok).each_make made h.among in (
+        let line = (are_printed meaning team past ok).each_make made h.among in (
           line.0,
           line.1,
           line.2,
           (
             sym line.3.who ∙ h.by,
             record {
-              not_after = let low = at_below (rows_of team past) line.0 line.1 line.2 in omega arith;
+              not_after = let low = at_below (rows_of meaning team past) line.0 line.1 line.2 in omega arith;
               made = rw line.3.line (h.group ∙ flag.group);
               lasts = rw line.3.reading (let lasts = h.lasts in omega arith);
             },
           ),
         )
 
-pub leased_support : (team : Team) (past : List Step) → IsSound team → Admissible team past → LeasedSupport team (rows_of team past)
-leased_support team [] sound ok = λ i r e. absurd (cc)
-leased_support team (s ∷ past) sound ok =
-    each_pushed (λ i r. (reading : ℕ) → r.up ≡ true → r.reading ≡ Some reading → AtLeast (majority team) (rows_of team past ++ row_of team past s ∷ []) (HasLease team i r.group reading)) (rows_of team past) (row_of team past s)
-    (λ i r at reading up is. at_least_pushed (majority team) (rows_of team past) (row_of team past s) (HasLease team i r.group reading) (leased_support team past sound (earlier team past s ok) i r at reading up is))
-    (λ reading up is. last_leased team (s ∷ past) (length (rows_of team past)) (row_of team past s) reading sound ok (last_at (rows_of team past) (row_of team past s)) (let n : length (rows_of team past ++ row_of team past s ∷ []) ≡ length (rows_of team past) + 1 = simp length-append in omega (arith, n)) up is)
+pub leased_support : {Content : Type 0} (meaning : Meaning Content) (team : Team) (past : List Step) → IsSound team → Admissible team past → LeasedSupport team (rows_of meaning team past)
+leased_support meaning team [] sound ok = λ i r e. absurd (cc)
+leased_support meaning team (s ∷ past) sound ok =
+    each_pushed (λ i r. (reading : ℕ) → r.up ≡ true → r.reading ≡ Some reading → AtLeast (majority team) (rows ++ last ∷ []) (HasLease team i r.group reading)) rows last
+    (λ i r at reading up is. at_least_pushed (majority team) rows last (HasLease team i r.group reading) (leased_support meaning team past sound (earlier team past s ok) i r at reading up is))
+    (λ reading up is. last_leased meaning team (s ∷ past) (length rows) last reading sound ok (last_at rows last) (let n : length (rows ++ last ∷ []) ≡ length rows + 1 = simp length-append in omega (arith, n)) up is)
   where
+    rows : List Row
+    rows = rows_of meaning team past
+
+    last : Row
+    last = row_of meaning team past s
+
     last_at : {X : Type 0} (xs : List X) (x : X) → slice_get (xs ++ x ∷ []) (length xs) ≡ Some x
     last_at [] x = refl
     last_at (y ∷ xs) x = last_at xs x
 
--- ---- all seven clauses
+-- ---- both
 
-pub safe_rows : (team : Team) (past : List Step) → IsSound team → Admissible team past → SafeRows team (rows_of team past)
-safe_rows team past sound ok =
-    let quiet = safe_deliveries team past in
-    record {
-      one_started_group = one_started_group team past sound ok;
-      same_deliveries = quiet.same_deliveries;
-      strong_last = quiet.strong_last;
-      backed = quiet.backed;
-      timed_order = quiet.timed_order;
-      equal_tables = quiet.equal_tables;
-      leased_support = leased_support team past sound ok;
-    }
+-- The two clauses of safe rows that don't speak of what is delivered.
+pub safe_rows : {Content : Type 0} (meaning : Meaning Content) (team : Team) (past : List Step) → IsSound team → Admissible team past → SafeSoFar team (rows_of meaning team past)
+safe_rows meaning team past sound ok = record { one_started_group = one_started_group meaning team past sound ok; leased_support = leased_support meaning team past sound ok }

@@ -15,6 +15,7 @@ use Rattle.tw_types.specs.Process.{Process}
 use Rattle.tw_types.specs.Row.{Row}
 use Rattle.tw_types.specs.Team.{IsSound}
 use Rattle.tw_types.specs.Votes.{Vote}
+use Rattle.tw_machine.specs.Applied.{Meaning}
 use Rattle.tw_machine.specs.Dispatches.{Dispatch}
 use Rattle.tw_machine.specs.Event.{Event}
 use Rattle.tw_machine.specs.History.{Promised, Make, SentUpdate, Up, life, make_item, makes_on, makes_by, send_item, sends_on, sends_by, up_at, up_on, up_by, history}
@@ -47,7 +48,7 @@ record AreSeen {I : Type 0} (Speaks : Row → Type 0) (Shows : Row → I → Typ
   each_row : Each rows (λ i r. Speaks r → Shown Shows items r)
   each_item : (k : I) → In k items → Exists rows (λ i r. Shows r k)
 
-each_pushed : (P : Row → Type 0) (rows : List Row) (last : Row) → Each rows (λ i r. P r) → P last → Each (rows ++ last ∷ []) (λ i r. P r)
+pub each_pushed : (P : Row → Type 0) (rows : List Row) (last : Row) → Each rows (λ i r. P r) → P last → Each (rows ++ last ∷ []) (λ i r. P r)
 each_pushed P [] last h p zero r e = subst P (same_Some last r e) p
 each_pushed P [] last h p (suc i) r e = cc
 each_pushed P (x ∷ rows) last h p zero r e = h 0 r e
@@ -58,10 +59,10 @@ stands_before [] last i r e = absurd (cc)
 stands_before (x ∷ rows) last zero r e = e
 stands_before (x ∷ rows) last (suc i) r e = stands_before rows last i r e
 
-exists_before : (P : Row → Type 0) (rows : List Row) (last : Row) → Exists rows (λ i r. P r) → Exists (rows ++ last ∷ []) (λ i r. P r)
+pub exists_before : (P : Row → Type 0) (rows : List Row) (last : Row) → Exists rows (λ i r. P r) → Exists (rows ++ last ∷ []) (λ i r. P r)
 exists_before P rows last x = (x.0, x.1, stands_before rows last x.0 x.1 x.2, x.3)
 
-exists_last : (P : Row → Type 0) (rows : List Row) (last : Row) → P last → Exists (rows ++ last ∷ []) (λ i r. P r)
+pub exists_last : (P : Row → Type 0) (rows : List Row) (last : Row) → P last → Exists (rows ++ last ∷ []) (λ i r. P r)
 exists_last P [] last p = (0, last, refl, p)
 exists_last P (x ∷ rows) last p = let k = exists_last P rows last p in (suc k.0, k.1, k.2, k.3)
 
@@ -88,31 +89,32 @@ abbrev HasLine : Row → Type 0
 HasLine r = r.made ≢ None
 
 -- the row after a deed, and the makes after it
-abbrev AddsMake : Team → ℕ → ℕ → ℕ → Step → Option Process → List Make → Deed → Type 0
-AddsMake team number already life s before older d = Adds HasLine IsMadeLineOf (row_by team number already s before d) older (makes_by life s d.process d.makings older)
+abbrev AddsMake : {Content : Type 0} → Meaning Content → Team → ℕ → ℕ → ℕ → Step → Option Process → List Make → Deed → Type 0
+AddsMake meaning team number already life s before older d = Adds HasLine IsMadeLineOf (row_by meaning team number already s before d) older (makes_by life s d.process d.makings older)
 
 -- of an event
-event_adds : (team : Team) (number already life : ℕ) (s : Step) (before : Option Process) (older : List Make) (e : Event) (p : Process)
-    → AgreesOnMade (moment_of team s.h e p).reading (step team s.h e p).out.made (step team s.h e p).makings → AddsMake team number already life s before older (happen team s.h e p)
-event_adds team number already life s before older e p (AgreesOnMade.Nothing line told) =
+event_adds : {Content : Type 0} (meaning : Meaning Content) (team : Team) (number already life : ℕ) (s : Step) (before : Option Process) (older : List Make) (e : Event) (p : Process)
+    → AgreesOnMade (moment_of team s.h e p).reading (step team s.h e p).out.made (step team s.h e p).makings → AddsMake meaning team number already life s before older (happen team s.h e p)
+event_adds meaning team number already life s before older e p (AgreesOnMade.Nothing line told) =
     Nothing (λ speaks. speaks (ap (option_map made_printed) line)) (ap (λ ms. makes_on (member_of (step team s.h e p).process.identity) life s ms older) told)
-event_adds team number already life s before older e p (AgreesOnMade.One making line told reading) =
+event_adds meaning team number already life s before older e p (AgreesOnMade.One making line told reading) =
     One (make_item (member_of (step team s.h e p).process.identity) life s older making)
     (record { who = refl; incarnation = refl; reading = viewed_after team s.h e p ∙ reading; line = ap (option_map made_printed) line })
     (ap (λ ms. makes_on (member_of (step team s.h e p).process.identity) life s ms older) told)
 
-deed_adds : (team : Team) (past : List Step) (number already life : ℕ) (s : Step) (before : Option Process) (older : List Make) (d : Deed) → Turn team past s d → AddsMake team number already life s before older d
-deed_adds team past number already life s before older d (Turn.Starts mode act comes) = subst (AddsMake team number already life s before older) (sym comes) (Nothing (λ speaks. speaks refl) refl)
-deed_adds team past number already life s before older d (Turn.Stops act comes) = subst (AddsMake team number already life s before older) (sym comes) (Nothing (λ speaks. speaks refl) refl)
-deed_adds team past number already life s before older d (Turn.Looks p runs act comes) = subst (AddsMake team number already life s before older) (sym comes) (Nothing (λ speaks. speaks refl) refl)
-deed_adds team past number already life s before older d (Turn.Happens e p runs brings comes) =
-    subst (AddsMake team number already life s before older) (sym comes) (event_adds team number already life s before older e p (step_agrees team s.h e p))
+deed_adds : {Content : Type 0} (meaning : Meaning Content) (team : Team) (past : List Step) (number already life : ℕ) (s : Step) (before : Option Process) (older : List Make) (d : Deed) → Turn team past s d
+    → AddsMake meaning team number already life s before older d
+deed_adds meaning team past number already life s before older d (Turn.Starts mode act comes) = subst (AddsMake meaning team number already life s before older) (sym comes) (Nothing (λ speaks. speaks refl) refl)
+deed_adds meaning team past number already life s before older d (Turn.Stops act comes) = subst (AddsMake meaning team number already life s before older) (sym comes) (Nothing (λ speaks. speaks refl) refl)
+deed_adds meaning team past number already life s before older d (Turn.Looks p runs act comes) = subst (AddsMake meaning team number already life s before older) (sym comes) (Nothing (λ speaks. speaks refl) refl)
+deed_adds meaning team past number already life s before older d (Turn.Happens e p runs brings comes) =
+    subst (AddsMake meaning team number already life s before older) (sym comes) (event_adds meaning team number already life s before older e p (step_agrees team s.h e p))
 
-makes_seen : (team : Team) (past : List Step) → Admissible team past → AreSeen HasLine IsMadeLineOf (rows_of team past) (history team past).makes
-makes_seen team [] ok = record { each_row = λ i r e. absurd (cc); each_item = λ k i. absurd i }
-makes_seen team (s ∷ past) ok =
-    seen_on HasLine IsMadeLineOf (rows_of team past) (row_of team past s) (history team past).makes (history team (s ∷ past)).makes (makes_seen team past (earlier team past s ok))
-    (deed_adds team past _ _ (life s.who (s ∷ past)) s ((world team past).process_of s.who) (history team past).makes (deed_in team (world team past) s) (turn team past s ok))
+makes_seen : {Content : Type 0} (meaning : Meaning Content) (team : Team) (past : List Step) → Admissible team past → AreSeen HasLine IsMadeLineOf (rows_of meaning team past) (history team past).makes
+makes_seen meaning team [] ok = record { each_row = λ i r e. absurd (cc); each_item = λ k i. absurd i }
+makes_seen meaning team (s ∷ past) ok =
+    seen_on HasLine IsMadeLineOf (rows_of meaning team past) (row_of meaning team past s) (history team past).makes (history team (s ∷ past)).makes (makes_seen meaning team past (earlier team past s ok))
+    (deed_adds meaning team past _ _ (life s.who (s ∷ past)) s ((world team past).process_of s.who) (history team past).makes (deed_in team (world team past) s) (turn team past s ok))
 
 -- ---- what was sent
 
@@ -121,32 +123,35 @@ abbrev SaysSent : Row → Type 0
 SaysSent r = (seq : ℕ) × (r.answer ≡ RowAnswer.Sent seq)
 
 -- the row after a deed, and the sends after it
-abbrev AddsSend : Team → ℕ → ℕ → ℕ → Step → Option Process → List SentUpdate → Deed → Type 0
-AddsSend team number already life s before older d = Adds SaysSent IsSentLineOf (row_by team number already s before d) older (sends_by life s d.process d.sendings older)
+abbrev AddsSend : {Content : Type 0} → Meaning Content → Team → ℕ → ℕ → ℕ → Step → Option Process → List SentUpdate → Deed → Type 0
+AddsSend meaning team number already life s before older d = Adds SaysSent IsSentLineOf (row_by meaning team number already s before d) older (sends_by life s d.process d.sendings older)
 
 -- of an event
-event_adds_send : (team : Team) (number already life : ℕ) (s : Step) (before : Option Process) (older : List SentUpdate) (e : Event) (p : Process)
-    → AgreesOnSent (moment_of team s.h e p).reading (step team s.h e p).answer (step team s.h e p).sendings → AddsSend team number already life s before older (happen team s.h e p)
-event_adds_send team number already life s before older e p (AgreesOnSent.Nothing silent noted) =
+event_adds_send : {Content : Type 0} (meaning : Meaning Content) (team : Team) (number already life : ℕ) (s : Step) (before : Option Process) (older : List SentUpdate) (e : Event) (p : Process)
+    → AgreesOnSent (moment_of team s.h e p).reading (step team s.h e p).answer (step team s.h e p).sendings → AddsSend meaning team number already life s before older (happen team s.h e p)
+event_adds_send meaning team number already life s before older e p (AgreesOnSent.Nothing silent noted) =
     Nothing (λ speaks. silent speaks.0 speaks.1) (ap (λ ms. sends_on (member_of (step team s.h e p).process.identity) life s ms older) noted)
-event_adds_send team number already life s before older e p (AgreesOnSent.One sending answer noted stamped) =
+event_adds_send meaning team number already life s before older e p (AgreesOnSent.One sending answer noted stamped) =
     One (send_item (member_of (step team s.h e p).process.identity) life s sending)
     (record { who = refl; incarnation = refl; reading = viewed_after team s.h e p ∙ stamped; answer = answer })
     (ap (λ ms. sends_on (member_of (step team s.h e p).process.identity) life s ms older) noted)
 
-deed_adds_send : (team : Team) (past : List Step) (number already life : ℕ) (s : Step) (before : Option Process) (older : List SentUpdate) (d : Deed) → Turn team past s d
-    → AddsSend team number already life s before older d
-deed_adds_send team past number already life s before older d (Turn.Starts mode act comes) = subst (AddsSend team number already life s before older) (sym comes) (Nothing (λ speaks. absurd (let e = speaks.1 in cc)) refl)
-deed_adds_send team past number already life s before older d (Turn.Stops act comes) = subst (AddsSend team number already life s before older) (sym comes) (Nothing (λ speaks. absurd (let e = speaks.1 in cc)) refl)
-deed_adds_send team past number already life s before older d (Turn.Looks p runs act comes) = subst (AddsSend team number already life s before older) (sym comes) (Nothing (λ speaks. absurd (let e = speaks.1 in cc)) refl)
-deed_adds_send team past number already life s before older d (Turn.Happens e p runs brings comes) =
-    subst (AddsSend team number already life s before older) (sym comes) (event_adds_send team number already life s before older e p (step_agrees_on_sent team s.h e p))
+deed_adds_send : {Content : Type 0} (meaning : Meaning Content) (team : Team) (past : List Step) (number already life : ℕ) (s : Step) (before : Option Process) (older : List SentUpdate) (d : Deed) → Turn team past s d
+    → AddsSend meaning team number already life s before older d
+deed_adds_send meaning team past number already life s before older d (Turn.Starts mode act comes) =
+    subst (AddsSend meaning team number already life s before older) (sym comes) (Nothing (λ speaks. absurd (let e = speaks.1 in cc)) refl)
+deed_adds_send meaning team past number already life s before older d (Turn.Stops act comes) =
+    subst (AddsSend meaning team number already life s before older) (sym comes) (Nothing (λ speaks. absurd (let e = speaks.1 in cc)) refl)
+deed_adds_send meaning team past number already life s before older d (Turn.Looks p runs act comes) =
+    subst (AddsSend meaning team number already life s before older) (sym comes) (Nothing (λ speaks. absurd (let e = speaks.1 in cc)) refl)
+deed_adds_send meaning team past number already life s before older d (Turn.Happens e p runs brings comes) =
+    subst (AddsSend meaning team number already life s before older) (sym comes) (event_adds_send meaning team number already life s before older e p (step_agrees_on_sent team s.h e p))
 
-sends_seen : (team : Team) (past : List Step) → Admissible team past → AreSeen SaysSent IsSentLineOf (rows_of team past) (history team past).sends
-sends_seen team [] ok = record { each_row = λ i r e. absurd (cc); each_item = λ k i. absurd i }
-sends_seen team (s ∷ past) ok =
-    seen_on SaysSent IsSentLineOf (rows_of team past) (row_of team past s) (history team past).sends (history team (s ∷ past)).sends (sends_seen team past (earlier team past s ok))
-    (deed_adds_send team past _ _ (life s.who (s ∷ past)) s ((world team past).process_of s.who) (history team past).sends (deed_in team (world team past) s) (turn team past s ok))
+sends_seen : {Content : Type 0} (meaning : Meaning Content) (team : Team) (past : List Step) → Admissible team past → AreSeen SaysSent IsSentLineOf (rows_of meaning team past) (history team past).sends
+sends_seen meaning team [] ok = record { each_row = λ i r e. absurd (cc); each_item = λ k i. absurd i }
+sends_seen meaning team (s ∷ past) ok =
+    seen_on SaysSent IsSentLineOf (rows_of meaning team past) (row_of meaning team past s) (history team past).sends (history team (s ∷ past)).sends (sends_seen meaning team past (earlier team past s ok))
+    (deed_adds_send meaning team past _ _ (life s.who (s ∷ past)) s ((world team past).process_of s.who) (history team past).sends (deed_in team (world team past) s) (turn team past s ok))
 
 -- ---- who was up
 
@@ -162,13 +167,13 @@ up_parts team vote (Informed (Some d)) None e = absurd (cc)
 up_parts team vote (Informed None) reading e = absurd (cc)
 up_parts team vote (Blank followed) reading e = absurd (cc)
 
-abbrev AddsUp : Team → ℕ → ℕ → ℕ → Step → Option Process → List Up → Deed → Type 0
-AddsUp team number already life s before older d = Adds SaysUp IsFlagOf (row_by team number already s before d) older (up_by team life s d.process older)
+abbrev AddsUp : {Content : Type 0} → Meaning Content → Team → ℕ → ℕ → ℕ → Step → Option Process → List Up → Deed → Type 0
+AddsUp meaning team number already life s before older d = Adds SaysUp IsFlagOf (row_by meaning team number already s before d) older (up_by team life s d.process older)
 
-process_adds : (team : Team) (number already life : ℕ) (s : Step) (before : Option Process) (older : List Up) (d : Deed) (q : Process)
+process_adds : {Content : Type 0} (meaning : Meaning Content) (team : Team) (number already life : ℕ) (s : Step) (before : Option Process) (older : List Up) (d : Deed) (q : Process)
     → (up : Bool) (reading : Option ℕ) (last : Option Decision) → (view_of team s.h q).up ≡ up → (view_of team s.h q).reading ≡ reading → last_decision q ≡ last
-    → Adds SaysUp IsFlagOf (row_by team number already s before (record d { process = Some q })) older (up_on life s q up reading last older)
-process_adds team number already life s before older d q true (Some t) (Some last) up reading is =
+    → Adds SaysUp IsFlagOf (row_by meaning team number already s before (record d { process = Some q })) older (up_on life s q up reading last older)
+process_adds meaning team number already life s before older d q true (Some t) (Some last) up reading is =
     One (up_at life s q t last) (record {
       who = refl;
       incarnation = refl;
@@ -177,42 +182,46 @@ process_adds team number already life s before older d q true (Some t) (Some las
       reading = reading;
       flag = up;
     }) refl
-process_adds team number already life s before older d q true (Some t) None up reading is = absurd ((up_parts team q.vote q.belief (view_of team s.h q).reading up).1 is)
-process_adds team number already life s before older d q true None last up reading is = absurd ((up_parts team q.vote q.belief (view_of team s.h q).reading up).0 reading)
-process_adds team number already life s before older d q false reading last up at is = Nothing (λ says. absurd (let no : false ≡ true = sym up ∙ says in cc)) refl
+process_adds meaning team number already life s before older d q true (Some t) None up reading is = absurd ((up_parts team q.vote q.belief (view_of team s.h q).reading up).1 is)
+process_adds meaning team number already life s before older d q true None last up reading is = absurd ((up_parts team q.vote q.belief (view_of team s.h q).reading up).0 reading)
+process_adds meaning team number already life s before older d q false reading last up at is = Nothing (λ says. absurd (let no : false ≡ true = sym up ∙ says in cc)) refl
 
-flag_adds : (team : Team) (number already life : ℕ) (s : Step) (before : Option Process) (older : List Up) (d : Deed) (o : Option Process) → d.process ≡ o → AddsUp team number already life s before older (record d { process = o })
-flag_adds team number already life s before older d None is = Nothing (λ says. absurd (cc)) refl
-flag_adds team number already life s before older d (Some q) is =
-    process_adds team number already life s before older d q (view_of team s.h q).up (view_of team s.h q).reading (last_decision q) refl refl refl
+flag_adds : {Content : Type 0} (meaning : Meaning Content) (team : Team) (number already life : ℕ) (s : Step) (before : Option Process) (older : List Up) (d : Deed) (o : Option Process) → d.process ≡ o
+    → AddsUp meaning team number already life s before older (record d { process = o })
+flag_adds meaning team number already life s before older d None is = Nothing (λ says. absurd (cc)) refl
+flag_adds meaning team number already life s before older d (Some q) is =
+    process_adds meaning team number already life s before older d q (view_of team s.h q).up (view_of team s.h q).reading (last_decision q) refl refl refl
 
-ups_seen : (team : Team) (past : List Step) → AreSeen SaysUp IsFlagOf (rows_of team past) (history team past).ups
-ups_seen team [] = record { each_row = λ i r e. absurd (cc); each_item = λ k i. absurd i }
-ups_seen team (s ∷ past) =
+ups_seen : {Content : Type 0} (meaning : Meaning Content) (team : Team) (past : List Step) → AreSeen SaysUp IsFlagOf (rows_of meaning team past) (history team past).ups
+ups_seen meaning team [] = record { each_row = λ i r e. absurd (cc); each_item = λ k i. absurd i }
+ups_seen meaning team (s ∷ past) =
     let d : Deed = deed_in team (world team past) s in
-    seen_on SaysUp IsFlagOf (rows_of team past) (row_of team past s) (history team past).ups (history team (s ∷ past)).ups (ups_seen team past)
-    (flag_adds team _ _ (life s.who (s ∷ past)) s ((world team past).process_of s.who) (history team past).ups d d.process refl)
+    seen_on SaysUp IsFlagOf (rows_of meaning team past) (row_of meaning team past s) (history team past).ups (history team (s ∷ past)).ups (ups_seen meaning team past)
+    (flag_adds meaning team _ _ (life s.who (s ∷ past)) s ((world team past).process_of s.who) (history team past).ups d d.process refl)
 
 -- ---- in every schedule
 
-pub made_lines_seen : (team : Team) (past : List Step) → Admissible team past → Each (rows_of team past) (λ i r. r.made ≢ None → (k : Make) × In k (history team past).makes × IsMadeLineOf r k)
-made_lines_seen team past ok = (makes_seen team past ok).each_row
+pub made_lines_seen : {Content : Type 0} (meaning : Meaning Content) (team : Team) (past : List Step) → Admissible team past
+    → Each (rows_of meaning team past) (λ i r. r.made ≢ None → (k : Make) × In k (history team past).makes × IsMadeLineOf r k)
+made_lines_seen meaning team past ok = (makes_seen meaning team past ok).each_row
 
-pub makes_printed : (team : Team) (past : List Step) → Admissible team past → (k : Make) → In k (history team past).makes → Exists (rows_of team past) (λ i r. IsMadeLineOf r k)
-makes_printed team past ok = (makes_seen team past ok).each_item
+pub makes_printed : {Content : Type 0} (meaning : Meaning Content) (team : Team) (past : List Step) → Admissible team past
+    → (k : Make) → In k (history team past).makes → Exists (rows_of meaning team past) (λ i r. IsMadeLineOf r k)
+makes_printed meaning team past ok = (makes_seen meaning team past ok).each_item
 
-pub sent_lines_seen : (team : Team) (past : List Step) → Admissible team past
-    → Each (rows_of team past) (λ i r. (seq : ℕ) → r.answer ≡ RowAnswer.Sent seq → (z : SentUpdate) × In z (history team past).sends × IsSentLineOf r z)
-sent_lines_seen team past ok = λ i r at seq e. (sends_seen team past ok).each_row i r at (seq, e)
+pub sent_lines_seen : {Content : Type 0} (meaning : Meaning Content) (team : Team) (past : List Step) → Admissible team past
+    → Each (rows_of meaning team past) (λ i r. (seq : ℕ) → r.answer ≡ RowAnswer.Sent seq → (z : SentUpdate) × In z (history team past).sends × IsSentLineOf r z)
+sent_lines_seen meaning team past ok = λ i r at seq e. (sends_seen meaning team past ok).each_row i r at (seq, e)
 
-pub sends_answered : (team : Team) (past : List Step) → Admissible team past → (z : SentUpdate) → In z (history team past).sends → Exists (rows_of team past) (λ i r. IsSentLineOf r z)
-sends_answered team past ok = (sends_seen team past ok).each_item
+pub sends_answered : {Content : Type 0} (meaning : Meaning Content) (team : Team) (past : List Step) → Admissible team past
+    → (z : SentUpdate) → In z (history team past).sends → Exists (rows_of meaning team past) (λ i r. IsSentLineOf r z)
+sends_answered meaning team past ok = (sends_seen meaning team past ok).each_item
 
-pub flags_seen : (team : Team) (past : List Step) → Each (rows_of team past) (λ i r. r.up ≡ true → (k : Up) × In k (history team past).ups × IsFlagOf r k)
-flags_seen team past = (ups_seen team past).each_row
+pub flags_seen : {Content : Type 0} (meaning : Meaning Content) (team : Team) (past : List Step) → Each (rows_of meaning team past) (λ i r. r.up ≡ true → (k : Up) × In k (history team past).ups × IsFlagOf r k)
+flags_seen meaning team past = (ups_seen meaning team past).each_row
 
-pub ups_printed : (team : Team) (past : List Step) → (k : Up) → In k (history team past).ups → Exists (rows_of team past) (λ i r. IsFlagOf r k)
-ups_printed team past = (ups_seen team past).each_item
+pub ups_printed : {Content : Type 0} (meaning : Meaning Content) (team : Team) (past : List Step) → (k : Up) → In k (history team past).ups → Exists (rows_of meaning team past) (λ i r. IsFlagOf r k)
+ups_printed meaning team past = (ups_seen meaning team past).each_item
 
 pub promise_kept : (team : Team) (past : List Step) (who : ℕ) → IsSound team → Admissible team past
     → IfSome ((world team past).process_of who) (λ (p : Process). 0 < p.vote.promised → (x : Promised) × In x (history team past).promises × IsKeptPromise past who p x)

@@ -36,6 +36,7 @@ use Rattle.tw_machine.specs.Taking.{take_decision}
 use Rattle.tw_machine.specs.Electing.{answer_tests, election_answered, answer_election, ballot_dropped, has_spent_ballot, drop_ballot, holds_election, election_begun, begin_election}
 use Rattle.tw_machine.specs.Deciding.{has_turn, turn_taken, take_turn}
 use Rattle.tw_machine.specs.Grouping.{promise_added, take_promise, make_group}
+use Rattle.tw_machine.specs.Delivering.{all_delivered, deliver}
 use Rattle.tw_machine.specs.Beating.{is_due, beat_marked, is_repeated, repeat_decision, ask_again, beat_given, give_beat}
 use Rattle.tw_machine.specs.Rules.{kind_rule, rule}
 use Rattle.tw_machine.specs.Duties.{timed_duties, duties_if_timed, duties}
@@ -87,13 +88,21 @@ election_none team now t r = go (holds_election team now t r.process)
     go true = refl
     go false = refl
 
+deliver_none : (team : Team) (t : ℕ) (r : Run) → NotesNone r (deliver team t r)
+deliver_none team t r = go (is_up team r.process.vote r.process.belief (Some t))
+  where
+    go : (up : Bool) → NotesNone r (cond up (all_delivered team (or_none (last_decision r.process)) r) r)
+    go true = refl
+    go false = refl
+
 timed_none : (team : Team) (now : Moment) (t : ℕ) (r : Run) → NotesNone r (timed_duties team now t r)
 unfolding timed_duties
 timed_none team now t r =
     let a : Run = drop_ballot team t r in
     let b : Run = take_turn team now t a in
     let c : Run = make_group team now t b in
-    election_none team now t c ∙ (group_none team now t b ∙ (turn_none team now t a ∙ drop_none team t r))
+    let d : Run = begin_election team now t c in
+    deliver_none team t d ∙ (election_none team now t c ∙ (group_none team now t b ∙ (turn_none team now t a ∙ drop_none team t r)))
 
 if_timed_none : (team : Team) (now : Moment) (reading : Option ℕ) (r : Run) → NotesNone r (duties_if_timed team now reading r)
 if_timed_none team now None r = refl

@@ -4,6 +4,7 @@
 use Rattle.std.proofs.Common.{◌≡◌, ◌≢◌, refl, sym, ap, subst, ◌∙◌, inl, inr, ℕ, ◌+◌, ◌/◌, ◌==◌, nat_le, Bool, true, false, not, ◌&&◌, ◌||◌, List, [], ◌∷◌, ◌++◌, map, drop, count_by, Option, Some, None, is_some, arith}
 use Rattle.std.proofs.lemmas.Bool.Decides.{nat_tests}
 use Rattle.std.specs.List.{AllByRecursion, list_all, list_any}
+use Rattle.std.specs.Option.{option_map}
 use Rattle.tw_types.specs.declared.message.Order.TheVariants as orders
 use Rattle.tw_types.specs.declared.message.Atom.TheVariants as atoms
 use Rattle.tw_types.specs.declared.message.UpdateId.{UpdateId}
@@ -16,15 +17,18 @@ use Rattle.tw_types.specs.declared.step.Act.{Act}
 use Rattle.tw_types.specs.declared.step.Act.TheVariants.{First, Tick, Recv, Send, Reference}
 use Rattle.tw_types.specs.declared.step.Step.{Step}
 use Rattle.tw_types.specs.Appending.{appended_list, appended_kept}
+use Rattle.tw_types.specs.Beliefs.{log_length}
 use Rattle.tw_types.specs.Decisions.{or_none, has_seat}
+use Rattle.tw_types.specs.Deliveries.{run_passed, earlies_marked}
 use Rattle.tw_types.specs.Examples.{team_a}
 use Rattle.tw_types.specs.Flag.{is_up}
+use Rattle.tw_types.specs.Process.{Process}
 use Rattle.tw_types.specs.Team.{IsSound}
 use Rattle.tw_machine.specs.Duties.{timed_duties, duties}
 use Rattle.tw_machine.specs.History.{Make, SentUpdate, history}
 use Rattle.tw_machine.specs.Rules.{kind_rule}
 use Rattle.tw_machine.specs.Step.{step}
-use Rattle.tw_machine.specs.World.{Admissible}
+use Rattle.tw_machine.specs.World.{world, Admissible}
 use Rattle.safety_laws.specs.Groups.{HasMajority}
 use Rattle.tw_types.specs.Items.{In}
 use Rattle.safety_laws.specs.Made.{WasMade}
@@ -108,12 +112,12 @@ sound = record {
 }
 
 admissible : Admissible team_a ordered
-unfolding is_up step kind_rule timed_duties duties appended_list appended_kept
+unfolding is_up step kind_rule timed_duties duties appended_list appended_kept run_passed earlies_marked
 admissible = ((((((((((((((((((((((tt, refl), refl), refl), refl), refl), refl), refl), refl), refl), refl), refl), refl), refl), refl), refl), refl), refl), refl), refl), refl), refl), refl)
 
 -- the newest first
 sent : (history team_a ordered).sends ≡ send 0 1 99 ∷ send 1 2 98 ∷ send 1 1 97 ∷ []
-unfolding is_up step kind_rule timed_duties duties appended_list appended_kept
+unfolding is_up step kind_rule timed_duties duties appended_list appended_kept run_passed earlies_marked
 sent = refl
 
 -- ---- decisions
@@ -153,23 +157,29 @@ turn_3 = decision 3 732000 1 (seat 0 2 (of_length 1 722000) ∷ seat 1 3 (of_len
 
 -- these are made
 decided : map (λ (m : Make). m.making.decision) (history team_a ordered).makes ≡ turn_3 ∷ turn_2 ∷ turn_1 ∷ turn_0 ∷ []
-unfolding is_up step kind_rule timed_duties duties appended_list appended_kept
+unfolding is_up step kind_rule timed_duties duties appended_list appended_kept run_passed earlies_marked
 decided = refl
 
 -- and each stands on the one before
 stands_on : map (λ (m : Make). m.making.before) (history team_a ordered).makes ≡ Some turn_2 ∷ Some turn_1 ∷ Some turn_0 ∷ None ∷ []
-unfolding is_up step kind_rule timed_duties duties appended_list appended_kept
+unfolding is_up step kind_rule timed_duties duties appended_list appended_kept run_passed earlies_marked
 stands_on = refl
 
 -- process 0 appended its own update, and process 1 its two
 appends : map (λ (m : Make). m.making.appended) (history team_a ordered).makes ≡ (update 1 1 97 ∷ update 1 2 98 ∷ []) ∷ (update 0 1 99 ∷ []) ∷ [] ∷ [] ∷ []
-unfolding is_up step kind_rule timed_duties duties appended_list appended_kept
+unfolding is_up step kind_rule timed_duties duties appended_list appended_kept run_passed earlies_marked
 appends = refl
 
 -- the whole lists
 lists : map (λ (m : Make). m.log) (history team_a ordered).makes ≡ (update 0 1 99 ∷ update 1 1 97 ∷ update 1 2 98 ∷ []) ∷ (update 0 1 99 ∷ []) ∷ [] ∷ [] ∷ []
-unfolding is_up step kind_rule timed_duties duties appended_list appended_kept
+unfolding is_up step kind_rule timed_duties duties appended_list appended_kept run_passed earlies_marked
 lists = refl
+
+-- Total and weak ones pass where a decision's list has them, at a process that is up: 0 passed the one of turn 2 as it made that, and 1
+-- all three as it made turn 3. 2 has none of them in its list.
+passed : map (λ (who : ℕ). option_map {U = ℕ × ℕ} (λ (p : Process). (p.log.passed, log_length p.log)) ((world team_a ordered).process_of who)) (0 ∷ 1 ∷ 2 ∷ []) ≡ Some (1, 1) ∷ Some (3, 3) ∷ Some (0, 0) ∷ []
+unfolding is_up step kind_rule timed_duties duties appended_list appended_kept run_passed earlies_marked
+passed = refl
 
 -- ---- ids
 
@@ -223,7 +233,7 @@ supports_send z m = (m.making.decision.group == z.sending.group) && (has_seat z.
 
 -- so it is of each send
 each_supported : list_all (λ z. list_any (supports_send z) (history team_a ordered).makes) (history team_a ordered).sends ≡ true
-unfolding is_up step kind_rule timed_duties duties appended_list appended_kept
+unfolding is_up step kind_rule timed_duties duties appended_list appended_kept run_passed earlies_marked
 each_supported = refl
 
 -- and what the test says is what the law says
@@ -265,7 +275,7 @@ abbrev is_backed : Make → Bool
 is_backed m = is_none m.making.appended || has_majority (or_none m.making.before)
 
 each_backed : list_all is_backed (history team_a ordered).makes ≡ true
-unfolding is_up step kind_rule timed_duties duties appended_list appended_kept
+unfolding is_up step kind_rule timed_duties duties appended_list appended_kept run_passed earlies_marked
 each_backed = refl
 
 -- and what that test says, with that, is what the law says
@@ -281,7 +291,7 @@ backed_by makes m e made some = go m.making.appended m.making.before refl refl
         (last, is, made last is, grind (arith, nat_tests))
 
 any_appends : list_any (λ (m : Make). not (is_none m.making.appended)) (history team_a ordered).makes ≡ true
-unfolding is_up step kind_rule timed_duties duties appended_list appended_kept
+unfolding is_up step kind_rule timed_duties duties appended_list appended_kept run_passed earlies_marked
 any_appends = refl
 
 -- there are makes with appended entries

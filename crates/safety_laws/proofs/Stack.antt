@@ -1,6 +1,6 @@
 -- The induction of a law on groups: over the steps of a schedule, and inside a step over its effects. A law may cite an earlier
 -- one before and after each effect; with it, it is a law again.
-use Rattle.std.proofs.Common.{◌≡◌, ◌≢◌, ◌<◌, refl, sym, ap, subst, ◌∙◌, inl, inr, ℕ, zero, suc, Bool, true, false, cond, nat_eq, List, [], ◌∷◌, ◌++◌, map, Option, Some, None, Ok, Err, IfSome}
+use Rattle.std.proofs.Common.{◌≡◌, ◌≢◌, ◌<◌, refl, sym, ap, subst, ◌∙◌, inl, inr, ℕ, zero, suc, Bool, true, false, cond, nat_eq, List, [], ◌∷◌, ◌++◌, map, Option, Some, None, Ok, Err, IfSome, length, ◌+◌}
 use Rattle.std.proofs.lemmas.List.{append-nil}
 use Rattle.tw_num.specs.Clock.{moment_at}
 use Rattle.tw_num.specs.declared.moment.Moment.{Moment}
@@ -40,7 +40,7 @@ use Rattle.safety_laws.proofs.Events.{mail_of, mail_is, event_row, look_row, rea
 
 -- nothing was written down before the first step
 abbrev pub nothing_written : Written
-nothing_written = record { promises = []; makes = []; sends = []; ups = []; sent = [] }
+nothing_written = record { promises = []; makes = []; sends = []; lines = []; ups = []; sent = [] }
 
 -- what is known of a step beside its effects: its process, its life, its clock, and that it received what was sent to it
 pub record Stepping (team : Team) (past : List Step) (s : Step) (here : Here) : Type 0 where
@@ -49,6 +49,7 @@ pub record Stepping (team : Team) (past : List Step) (s : Step) (here : Here) : 
   pub same_team : here.team ≡ team
   pub same_step : here.step ≡ s
   pub same_life : here.life ≡ life s.who (s ∷ past)
+  pub same_row : here.row ≡ length past + 1
   pub hardware : here.now.h ≡ s.h
   pub near : IfSome here.now.reading (λ t. IsNear team.eps s.t t)
 
@@ -111,6 +112,7 @@ sent_stays here x y (Change.Give c) k i = rw c.written i
 sent_stays here x y (Change.Hold c) k i = rw c.written i
 sent_stays here x y (Change.Take c) k i = rw c.written i
 sent_stays here x y (Change.Make c) k i = rw c.written i
+sent_stays here x y (Change.Deliver c) k i = rw c.written i
 sent_stays here x y (Change.Raise c) k i = rw c.written i
 
 mailed_still : (here : Here) (x y : State) → Change here x y → IsMailed here x.written → IsMailed here y.written
@@ -215,8 +217,8 @@ module _ (team : Team) (law : Law) (rules : LawRules team law) (past : List Step
         others = end.holds.others;
       }
 
-  by_deed : (d : Deed) → deed_in team (world team past) s ≡ d → written team (s ∷ past) ≡ written_after team (life s.who (s ∷ past)) s d (written team past)
-  by_deed d comes = ap (λ (d : Deed). written_after team (life s.who (s ∷ past)) s d (written team past)) comes
+  by_deed : (d : Deed) → deed_in team (world team past) s ≡ d → written team (s ∷ past) ≡ written_after team (length past + 1) (life s.who (s ∷ past)) s d (written team past)
+  by_deed d comes = ap (λ (d : Deed). written_after team (length past + 1) (life s.who (s ∷ past)) s d (written team past)) comes
 
   nothing_sent : record (written team past) { sent = (written team past).sent ++ [] } ≡ written team past
   nothing_sent = ap (λ ds. record (written team past) { sent = ds }) (append-nil (written team past).sent)
@@ -241,7 +243,7 @@ module _ (team : Team) (law : Law) (rules : LawRules team law) (past : List Step
 
   -- the step of a process whose clock tells this, and that receives this
   here_with : Moment → Option Datagram → Here
-  here_with now mail = record { team = team; step = s; life = life s.who (s ∷ past); now = now; mail = mail }
+  here_with now mail = record { team = team; step = s; life = life s.who (s ∷ past); row = length past + 1; now = now; mail = mail }
 
   -- a look
   seen : (p : Process) → (world team past).process_of s.who ≡ Some p → s.act ≡ Look → deed_in team (world team past) s ≡ silent (Some (looked team s.h p)) RowAnswer.Look → After team law past s (written team (s ∷ past)) (Some (looked team s.h p))
@@ -259,10 +261,11 @@ module _ (team : Team) (law : Law) (rules : LawRules team law) (past : List Step
         same_team = refl;
         same_step = refl;
         same_life = refl;
+        same_row = refl;
         hardware = refl;
         near = clock_near team s.who (s ∷ past) p.timing.clock s.t s.h (waited_clock p runs) (may_read_now team past s ok);
       } in
-      rw (by_deed (silent (Some q) RowAnswer.Look) comes) (goes_on here p q (written_after team (life s.who (s ∷ past)) s (silent (Some q) RowAnswer.Look) (written team past)) at runs (rw act refl) (λ d e. absurd (cc)) end)
+      rw (by_deed (silent (Some q) RowAnswer.Look) comes) (goes_on here p q (written_after team (length past + 1) (life s.who (s ∷ past)) s (silent (Some q) RowAnswer.Look) (written team past)) at runs (rw act refl) (λ d e. absurd (cc)) end)
     where
       waited_clock : (p : Process) → (world team past).process_of s.who ≡ Some p → ClockInvariant team s.who (s ∷ past) p.timing.clock
       waited_clock p runs = (timed_still team past s s.who p.timing ((timed team past sound (earlier team past s ok)).running s.who p runs).timing).reads
@@ -284,10 +287,11 @@ module _ (team : Team) (law : Law) (rules : LawRules team law) (past : List Step
         same_team = refl;
         same_step = refl;
         same_life = refl;
+        same_row = refl;
         hardware = refl;
         near = clock_near team s.who (s ∷ past) (learnt_by team s.h e p).timing.clock s.t s.h well.timing.reads (may_read_now team past s ok);
       } in
-      rw (by_deed (happen team s.h e p) comes) (goes_on here p r.process (written_after team (life s.who (s ∷ past)) s (happen team s.h e p) (written team past)) at runs (no_start e brings) mailed end)
+      rw (by_deed (happen team s.h e p) comes) (goes_on here p r.process (written_after team (length past + 1) (life s.who (s ∷ past)) s (happen team s.h e p) (written team past)) at runs (no_start e brings) mailed end)
     where
       no_start : (e : Event) → Brings team past s e → is_start s.act ≡ false
       no_start Event.Tick act = rw act refl

@@ -19,6 +19,7 @@ use Rattle.safety_laws.specs.Names.{promise_name, IsNamed, IsOfLife, Present, Ea
 use Rattle.safety_laws.specs.Promises.{OfPromises, OfPromiser, of_promises}
 use Rattle.safety_laws.specs.Still.{SaysTheSame, StandsStill, still}
 use Rattle.safety_laws.proofs.Induction.{start_by}
+use Rattle.safety_laws.proofs.Delivers.{log_delivers}
 use Rattle.safety_laws.proofs.Held.{may_take}
 use Rattle.safety_laws.proofs.Lists.{of_each, each_from, each_weaker}
 use Rattle.safety_laws.proofs.Names as names
@@ -85,6 +86,8 @@ changes team past s here x y at change before k = go change
     go : Change here x y → Holds still (s ∷ past) (world team past) s.who y
     go (Change.Keep c) = same_lists c.promises (same_record x.written x.process y.process c.identity c.belief (ap log_length c.log) k.own)
     go (Change.Hold c) = same_lists (ap (λ (w : Written). w.promises) c.written) (same_record x.written x.process y.process (ap (λ (p : Process). p.identity) c.process) (ap (λ (p : Process). p.belief) c.process) (ap (λ (p : Process). log_length p.log) c.process) k.own)
+    go (Change.Deliver c) = same_lists (ap (λ (w : Written). w.promises) c.written)
+        (same_record x.written x.process y.process (ap (λ (p : Process). p.identity) c.process) (ap (λ (p : Process). p.belief) c.process) (log_delivers here x y c).same_length k.own)
     go (Change.Raise c) = same_lists (ap (λ (w : Written). w.promises) c.written) (same_record x.written x.process y.process (ap (λ (p : Process). p.identity) c.process) (ap (λ (p : Process). p.belief) c.process) (ap (λ (p : Process). log_length p.log) c.process) k.own)
     go (Change.Take c) =
         let group : (or_none (view_decision y.process.belief)).group ≡ c.taken_decision.group = ap (λ (p : Process). (or_none (view_decision p.belief)).group) c.process in

@@ -32,6 +32,9 @@ use Rattle.tw_types.specs.Refusals.{first_refusal}
 use Rattle.tw_types.specs.Taking.{is_barred}
 use Rattle.tw_types.specs.Turns.{is_turn, next_decision}
 use Rattle.tw_types.specs.Votes.{Promise}
+use Rattle.tw_types.specs.Decisions.{or_none}
+use Rattle.tw_types.specs.Flag.{is_up}
+use Rattle.tw_machine.specs.Delivering.{all_delivered, deliver}
 use Rattle.tw_machine.specs.Beating.{is_due, is_repeated, repeat_decision, ask_again, beat_marked, beat_given, give_beat}
 use Rattle.tw_machine.specs.Control.{rate_of, timely_reading, if_timely}
 use Rattle.tw_machine.specs.Deciding.{has_turn, entries_to_add, turn_taken, take_turn}
@@ -288,6 +291,13 @@ election_belief team now t r = go (holds_election team now t r.process)
     go true = refl
     go false = refl
 
+deliver_belief : (team : Team) (t : ℕ) (r : Run) → (deliver team t r).process.belief ≡ r.process.belief
+deliver_belief team t r = go (is_up team r.process.vote r.process.belief (Some t))
+  where
+    go : (up : Bool) → (cond up (all_delivered team (or_none (last_decision r.process)) r) r).process.belief ≡ r.process.belief
+    go true = refl
+    go false = refl
+
 repeat_belief : (team : Team) (now : Moment) (r : Run) → (repeat_decision team now r).process.belief ≡ r.process.belief
 repeat_belief team now r = go (last_decision r.process)
   where
@@ -316,7 +326,8 @@ timed_under team now t p r low k =
     let b : Run = take_turn team now t a in
     let c : Run = make_group team now t b in
     let left : Ready p a.process = record { since = drop_since team t p r k; held = drop_promised team t r } in
-    same_belief p c.process (begin_election team now t c).process (election_belief team now t c) (group_under team now t p b (turn_ready team now t p a low left))
+    let d : Run = begin_election team now t c in
+    same_belief p c.process (deliver team t d).process (deliver_belief team t d ∙ election_belief team now t c) (group_under team now t p b (turn_ready team now t p a low left))
 
 if_timed_under : (team : Team) (now : Moment) (reading : Option ℕ) (p : Process) (r : Run) → IsLow p → Since p r.process → ComesUnder p (duties_if_timed team now reading r).process
 if_timed_under team now None p r low k = k.last

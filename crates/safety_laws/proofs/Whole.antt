@@ -266,6 +266,7 @@ module _ (team : Team) (past : List Step) (s : Step) (here : Here) (x y : State)
   changed (Change.Give c) = same (ap (λ (w : Written). w.makes) c.written)
   changed (Change.Hold c) = same (ap (λ (w : Written). w.makes) c.written)
   changed (Change.Take c) = same (ap (λ (w : Written). w.makes) c.written)
+  changed (Change.Deliver c) = same (ap (λ (w : Written). w.makes) c.written)
   changed (Change.Raise c) = same (ap (λ (w : Written). w.makes) c.written)
   changed (Change.Make c) =
       let new = make_item me here.life here.step makes c.making in

@@ -11,6 +11,7 @@ use Rattle.tw_types.specs.declared.step.Act.{Act}
 use Rattle.tw_types.specs.declared.step.Act.TheVariants.{First, Tick, Recv, Reference, Look}
 use Rattle.tw_types.specs.declared.step.Step.{Step}
 use Rattle.tw_types.specs.Decisions.{or_none}
+use Rattle.tw_types.specs.Deliveries.{run_passed, earlies_marked}
 use Rattle.tw_types.specs.Flag.{is_up}
 use Rattle.tw_machine.specs.Duties.{timed_duties, duties}
 use Rattle.tw_machine.specs.History.{Promised, Make, Up, history}
@@ -19,6 +20,7 @@ use Rattle.tw_machine.specs.Rules.{kind_rule}
 use Rattle.tw_machine.specs.Started.{started_at}
 use Rattle.tw_machine.specs.Step.{step}
 use Rattle.tw_machine.specs.World.{Admissible}
+use Rattle.tw_machine.proofs.Meanings.{no_entries}
 
 abbrev at : ℕ → ℕ → ℕ → Act → Step
 at t who h act = record { t = t; who = who; h = h; act = act }
@@ -73,38 +75,38 @@ abbrev flags : List Up → List (ℕ × ℕ × ℕ)
 flags items = map (λ (u : Up). (u.who, u.group, u.reading)) items
 
 promises : votes (history team_a one_flag).promises ≡ (1, 9, 901000, Some 702000) ∷ (0, 9, 900000, None) ∷ (2, 7, 701000, None) ∷ (0, 7, 701000, None) ∷ (1, 7, 700000, None) ∷ []
-unfolding is_up step kind_rule timed_duties duties
+unfolding is_up step kind_rule timed_duties duties run_passed earlies_marked
 promises = refl
 
 makes : decisions (history team_a one_flag).makes ≡ (1, 9, 1, 9, 0, []) ∷ (0, 9, 0, 7, 1, 0 ∷ 1 ∷ []) ∷ (2, 7, 1, 7, 0, []) ∷ (1, 7, 0, 0, 0, 1 ∷ 0 ∷ 2 ∷ []) ∷ []
-unfolding is_up step kind_rule timed_duties duties
+unfolding is_up step kind_rule timed_duties duties run_passed earlies_marked
 makes = refl
 
 supports : supports_in (history team_a one_flag).makes ≡ (Some 950000 ∷ Some 960000 ∷ []) ∷ (Some 950000 ∷ None ∷ []) ∷ (None ∷ Some 702000 ∷ Some 712000 ∷ []) ∷ (None ∷ Some 702000 ∷ None ∷ []) ∷ []
-unfolding is_up step kind_rule timed_duties duties
+unfolding is_up step kind_rule timed_duties duties run_passed earlies_marked
 supports = refl
 
 -- at 1102000 the old group is up, and from the next reading on the new one
 ups : flags (history team_a one_flag).ups ≡ (0, 9, 1102001) ∷ (1, 9, 1102001) ∷ (2, 7, 1102000) ∷ (1, 7, 901000) ∷ (1, 7, 713000) ∷ (2, 7, 712000) ∷ []
-unfolding is_up step kind_rule timed_duties duties
+unfolding is_up step kind_rule timed_duties duties run_passed earlies_marked
 ups = refl
 
-not_yet : started_at (rows_of team_a one_flag) 701000 ≡ None
-unfolding is_up step kind_rule timed_duties duties
+not_yet : started_at (rows_of no_entries team_a one_flag) 701000 ≡ None
+unfolding is_up step kind_rule timed_duties duties run_passed earlies_marked
 not_yet = refl
 
-first_started : started_at (rows_of team_a one_flag) 701001 ≡ Some 7
-unfolding is_up step kind_rule timed_duties duties
+first_started : started_at (rows_of no_entries team_a one_flag) 701001 ≡ Some 7
+unfolding is_up step kind_rule timed_duties duties run_passed earlies_marked
 first_started = refl
 
-first_still : started_at (rows_of team_a one_flag) 1102000 ≡ Some 7
-unfolding is_up step kind_rule timed_duties duties
+first_still : started_at (rows_of no_entries team_a one_flag) 1102000 ≡ Some 7
+unfolding is_up step kind_rule timed_duties duties run_passed earlies_marked
 first_still = refl
 
-second_started : started_at (rows_of team_a one_flag) 1102001 ≡ Some 9
-unfolding is_up step kind_rule timed_duties duties
+second_started : started_at (rows_of no_entries team_a one_flag) 1102001 ≡ Some 9
+unfolding is_up step kind_rule timed_duties duties run_passed earlies_marked
 second_started = refl
 
 admissible : Admissible team_a one_flag
-unfolding is_up step kind_rule timed_duties duties
+unfolding is_up step kind_rule timed_duties duties run_passed earlies_marked
 admissible = ((((((((((((((((((((((((((tt, refl), refl), refl), refl), refl), refl), refl), refl), refl), refl), refl), refl), refl), refl), refl), refl), refl), refl), refl), refl), refl), refl), refl), refl), refl), refl)

@@ -20,6 +20,7 @@ use Rattle.tw_types.specs.Votes.{Promise, Making}
 use Rattle.tw_types.specs.Beliefs.{is_informed, view_decision, log_length}
 use Rattle.tw_types.specs.Ballots.{begun, joined, wants, is_complete}
 use Rattle.tw_types.specs.Decisions.{or_none, is_older, has_seat}
+use Rattle.tw_types.specs.Deliveries.{log_delivered, waiting_delivered}
 use Rattle.tw_types.specs.Flag.{is_up}
 use Rattle.tw_types.specs.Groups.{group_made, group_making}
 use Rattle.tw_types.specs.Promises.{is_quarantined, is_in_window}
@@ -33,12 +34,13 @@ use Rattle.tw_types.specs.Logs.{list_tests, first_missing}
 use Rattle.tw_types.specs.Process.{Process, ToTake, ToGroup}
 use Rattle.tw_types.specs.Process as records
 use Rattle.tw_machine.specs.Dispatches.{Dispatch, sent_at}
-use Rattle.tw_machine.specs.History.{Promised, SentUpdate, Up, promise_item, make_item, send_item, up_at, promises_on, makes_on, sends_on, makes_by, sends_by, up_by, history}
+use Rattle.tw_machine.specs.History.{Promised, SentUpdate, Line, Up, promise_item, make_item, send_item, up_at, promises_on, makes_on, sends_on, lines_on, makes_by, sends_by, lines_by, up_by, history}
 use Rattle.tw_machine.specs.History as items
 use Rattle.tw_machine.specs.Run.{Run}
 use Rattle.tw_machine.specs.World.{Deed, world}
 use Rattle.tw_machine.specs.Standing.{member_of, last_decision, is_ready, report_by}
 use Rattle.tw_machine.specs.Entering.{entered}
+use Rattle.tw_machine.specs.Delivering.{all_told}
 use Rattle.tw_machine.specs.Deciding.{supporting, next_made}
 use Rattle.tw_machine.specs.Proposing.{own_seat, own_seq}
 use Rattle.tw_types.specs.Items.{In}
@@ -48,6 +50,7 @@ pub record Written : Type 0 where
   pub promises : List Promised
   pub makes : List items.Make
   pub sends : List SentUpdate
+  pub lines : List Line
   pub ups : List Up
   pub sent : List Dispatch
 
@@ -57,6 +60,7 @@ written team past = record {
   promises = (history team past).promises;
   makes = (history team past).makes;
   sends = (history team past).sends;
+  lines = (history team past).lines;
   ups = (history team past).ups;
   sent = (world team past).sent;
 }
@@ -66,11 +70,12 @@ pub record State : Type 0 where
   pub process : Process
   pub written : Written
 
--- the step: its team, itself, the life of its process, what the process's clock tells, and the datagram that it receives, if any
+-- the step: its team, itself, the life of its process, the number of its row, what the process's clock tells, and the datagram that it receives, if any
 pub record Here : Type 0 where
   pub team : Team
   pub step : Step
   pub life : ℕ
+  pub row : ℕ
   pub now : Moment
   pub mail : Option Datagram
 
@@ -82,17 +87,19 @@ state_of here before r = record {
     promises = promises_on here.life here.step r.promises before.promises;
     makes = makes_on (member_of r.process.identity) here.life here.step r.makings before.makes;
     sends = sends_on (member_of r.process.identity) here.life here.step r.sendings before.sends;
+    lines = lines_on here.row (member_of r.process.identity) here.life here.step r.delivered before.lines;
     ups = before.ups;
     sent = before.sent ++ map (sent_at here.step.t) r.out.sends;
   };
 }
 
 -- what is written down after a step that comes to this
-abbrev pub written_after : Team → ℕ → Step → Deed → Written → Written
-written_after team life s d before = record {
+abbrev pub written_after : Team → (row : ℕ) → ℕ → Step → Deed → Written → Written
+written_after team row life s d before = record {
   promises = promises_on life s d.promises before.promises;
   makes = makes_by life s d.process d.makings before.makes;
   sends = sends_by life s d.process d.sendings before.sends;
+  lines = lines_by row life s d.process d.delivered before.lines;
   ups = up_by team life s d.process before.ups;
   sent = before.sent ++ map (sent_at s.t) d.out.sends;
 }
@@ -214,6 +221,7 @@ pub record Keeps (here : Here) (x y : State) : Type 0 where
   pub numbers : Numbers here x y
   pub promises : y.written.promises ≡ x.written.promises
   pub makes : y.written.makes ≡ x.written.makes
+  pub lines : y.written.lines ≡ x.written.lines
   pub ups : y.written.ups ≡ x.written.ups
   pub new : List (ℕ × Datagram)
   pub sent : y.written.sent ≡ x.written.sent ++ map (sent_at here.step.t) new
@@ -291,6 +299,18 @@ pub record Raises (here : Here) (x y : State) : Type 0 where
   pub process : y.process ≡ x.process
   pub written : y.written ≡ record (x.written) { ups = up_at here.life here.step x.process t last ∷ x.written.ups }
 
+-- A process that is up at its reading delivers what it may by its last decision: it passes positions of its list, and marks what it
+-- delivers early, in its list and of what is pending.
+pub record Delivers (here : Here) (x y : State) : Type 0 where
+  pub t : ℕ
+  pub last : Decision
+  pub reading : here.now.reading ≡ Some t
+  pub read : x.process.timing.clock.greatest ≡ Some t
+  pub last_is : last_decision x.process ≡ Some last
+  pub up : is_up here.team x.process.vote x.process.belief (Some t) ≡ true
+  pub process : y.process ≡ record (x.process) { log = log_delivered here.team last x.process.log; waiting = waiting_delivered x.process.waiting }
+  pub written : y.written ≡ record (x.written) { lines = lines_on here.row (member_of x.process.identity) here.life here.step (all_told here.team last x.process.log x.process.waiting.pending) x.written.lines }
+
 -- one effect
 pub data Change (here : Here) (x y : State) : Type 0 where
   Keep : Keeps here x y → Change here x y
@@ -298,6 +318,7 @@ pub data Change (here : Here) (x y : State) : Type 0 where
   Hold : Ballots here x y → Change here x y
   Take : Takes here x y → Change here x y
   Make : Makes here x y → Change here x y
+  Deliver : Delivers here x y → Change here x y
   Raise : Raises here x y → Change here x y
 
 -- a row of them

@@ -16,6 +16,7 @@ pub mod Full
 pub mod Made
 pub mod Once
 pub mod Supports
+pub mod Tables
 pub mod Precede
 pub mod Still
 pub mod Ups
@@ -30,3 +31,4 @@ pub mod Lists
 pub mod Reported
 pub mod Beginnings
 pub mod Acknowledged
+pub mod Delivered

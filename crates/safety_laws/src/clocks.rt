@@ -14,34 +14,37 @@ ghost use Rattle.tw_types.specs.Row.{Row};
 ghost use Rattle.tw_types.specs.Process.{Process};
 ghost use Rattle.tw_machine.specs.World.{world, Admissible};
 ghost use Rattle.tw_machine.specs.Rows.{rows_of};
+ghost use Rattle.tw_machine.specs.Applied.{meaning_of};
 ghost use Rattle.tw_machine.specs.Dispatches.{Dispatch};
 ghost use Rattle.tw_machine.specs.Hearing.{trip_bound, told};
 ghost use Rattle.safety_laws.specs.Clocks.{MayRead, ClockHolds, SentWell, Covers, own_interval, rate_at, EachReadsNear, IsReceipt};
 ghost use Rattle.tw_machine.specs.ClockLaw.{ReadsWell};
 
+use app_table::Machine;
+
 /// Clocks tell team time, whatever the schedule: a process's interval holds it at each of its steps and from then on, a
 /// printed reading is at most `eps` microseconds away from it, no intervals of a process contradict each other, and each
 /// interval that a datagram tells held team time when the datagram was sent. This rests on hardware clocks that keep the
 /// team's drift bound, over crashes too, and on references that hold team time; datagrams may be late, lost and repeated, and
-/// processes may crash and return.
-pub fn clocks_hold_team_time()
+/// processes may crash and return. Rows are those of any machine, however looks show what it has.
+pub fn clocks_hold_team_time<A: Machine>()
     ensures interval { (team : Team) (past : List Step) (s : Step) → IsSound team →
         Admissible team (s ∷ past) →
         IfSome ((world team (s ∷ past)).process_of s.who) (ClockHolds team.ppm s.t s.h) }
     ensures later { (team : Team) (past : List Step) (who t h : ℕ) → IsSound team →
         Admissible team past → MayRead team.ppm who past t h →
         IfSome ((world team past).process_of who) (ClockHolds team.ppm t h) }
-    ensures reading { (team : Team) (past : List Step) → IsSound team →
-        Admissible team past → ReadsWell team past }
-    ensures rows { (team : Team) (past : List Step) → IsSound team →
+    ensures reading { (shown : A → List (ℕ × ℕ)) (team : Team) (past : List Step) → IsSound team →
+        Admissible team past → ReadsWell (meaning_of A.empty A.after shown) team past }
+    ensures rows { (shown : A → List (ℕ × ℕ)) (team : Team) (past : List Step) → IsSound team →
         Admissible team past →
-        EachReadsNear team.eps (reverse past) (rows_of team past) }
+        EachReadsNear team.eps (reverse past) (rows_of (meaning_of A.empty A.after shown) team past) }
     ensures disjoint { (team : Team) (past : List Step) (who : ℕ) → IsSound team →
         Admissible team past →
         IfSome ((world team past).process_of who) (λ (p : Process). p.timing.clock.disjoint ≡ None) }
-    ensures not_dropped { (team : Team) (past : List Step) → IsSound team →
+    ensures not_dropped { (shown : A → List (ℕ × ℕ)) (team : Team) (past : List Step) → IsSound team →
         Admissible team past →
-        AllByRecursion (λ (r : Row). r.answer ≢ RowAnswer.Dropped Reason.Disjoint) (rows_of team past) }
+        AllByRecursion (λ (r : Row). r.answer ≢ RowAnswer.Dropped Reason.Disjoint) (rows_of (meaning_of A.empty A.after shown) team past) }
     ensures sent { (team : Team) (past : List Step) → IsSound team →
         Admissible team past →
         AllByRecursion SentWell (world team past).sent }

@@ -15,9 +15,10 @@ ghost use Rattle.safety_laws.specs.Windows.{IsInWindow};
 ghost use Rattle.tw_types.specs.declared.ballot.Ballot.{Ballot};
 ghost use Rattle.tw_types.specs.declared.message.Decision.{Decision};
 ghost use Rattle.tw_types.specs.Process.{Process};
+ghost use Rattle.tw_machine.specs.Applied.{meaning_of};
 ghost use Rattle.tw_machine.specs.Dispatches.{Dispatch};
 ghost use Rattle.tw_machine.specs.Rows.{rows_of};
-ghost use Rattle.tw_machine.specs.SafeRows.{SafeRows};
+ghost use Rattle.tw_machine.specs.SafeRows.{SafeSoFar};
 ghost use Rattle.safety_laws.specs.Effects.{written};
 ghost use Rattle.safety_laws.specs.Groups.{HasMajority, StandsOn, BeginsAbove};
 ghost use Rattle.safety_laws.specs.Held.{HoldsWell, HoldsBelow};
@@ -28,6 +29,8 @@ ghost use Rattle.safety_laws.specs.Once.{AllOnce, IsAboveAll};
 ghost use Rattle.safety_laws.specs.Still.{StandsStill};
 ghost use Rattle.safety_laws.specs.Supports.{AllSupported};
 ghost use Rattle.safety_laws.specs.Under.{IsUnder};
+
+use app_table::Machine;
 
 /// Promises ascend, over every restart of their process: each is of a greater number than all that the process promised before,
 /// in whatever life (`ascend`); it is given near the team time of its step (`near`), and its number is near the slot of its
@@ -112,7 +115,9 @@ pub fn leases_outlast_older_groups()
         BeginsAbove u.group later → u.reading < later.making.decision.start }
 {}
 
-/// The rows of each schedule are safe: one started group at a reading, leased support, and the five clauses on deliveries and tables.
-pub fn rows_are_safe()
-    ensures rows { (team : Team) (past : List Step) → IsSound team → Admissible team past → SafeRows team (rows_of team past) }
+/// The rows of each schedule are safe so far, with any machine, however looks show what it has: one started group at a reading, and
+/// leased support. Of the five clauses of safe rows on what is delivered, and on tables, nothing is said here yet.
+pub fn rows_are_safe<A: Machine>()
+    ensures rows { (shown : A → List (ℕ × ℕ)) (team : Team) (past : List Step) → IsSound team → Admissible team past →
+        SafeSoFar team (rows_of (meaning_of A.empty A.after shown) team past) }
 {}

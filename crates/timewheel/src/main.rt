@@ -1,6 +1,6 @@
 //! The program `timewheel`. `timewheel replay` reads from standard input what happens to the processes of a team, step by step, and
 //! writes a row for each step to standard output: what its process reads of team time, whether it may believe its group, its last
-//! decision, and what it decided and sent.
+//! decision, what it decided, delivered and sent, and, after a look, its table.
 //!
 //! Here are the program's words, its adapters and its end: a status other than `Ok` is a line on standard error, and its number is
 //! the program's. What a command does is in `run`.

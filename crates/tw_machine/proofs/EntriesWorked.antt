@@ -22,6 +22,7 @@ use Rattle.tw_types.specs.Appending.{appended_list}
 use Rattle.tw_types.specs.Beliefs.{Informed}
 use Rattle.tw_types.specs.Decisions.{decision_length}
 use Rattle.tw_types.specs.Examples.{team_a}
+use Rattle.tw_types.specs.Deliveries.{run_passed, earlies_marked}
 use Rattle.tw_types.specs.Flag.{is_up}
 use Rattle.tw_types.specs.Process.{Process, started}
 use Rattle.tw_machine.specs.Event.{Packet, Tick, Outcome}
@@ -67,9 +68,9 @@ member last pending = record (started 0 First 699990) {
   waiting = record { pending = pending; held = None };
 }
 
--- the updates in its list, those that wait, and the turn of its last decision
-abbrev shown : Process → List UpdateId × List UpdateId × Option ℕ
-shown p = (ids p.log.entries, ids p.waiting.pending, option_map (λ (d : Decision). d.turn) (last_decision p))
+-- the updates in its list, those that wait, the turn of its last decision, and how many of the list it passed
+abbrev shown : Process → List UpdateId × List UpdateId × Option ℕ × ℕ
+shown p = (ids p.log.entries, ids p.waiting.pending, option_map (λ (d : Decision). d.turn) (last_decision p), p.log.passed)
   where
     ids : List Kept → List UpdateId
     ids updates = map (λ (k : Kept). k.entry.id) updates
@@ -85,8 +86,9 @@ ticks h p = step team_a h Tick p
 abbrev up_by_two : Decision
 up_by_two = decision 5 2 (Some (record { ack = 0; at = 702000 })) [] 1
 
-up_maker_adds : shown (ticks 713000 (member up_by_two (update ∷ []))).process ≡ (id ∷ [], [], Some 6)
-unfolding step kind_rule timed_duties duties is_up appended_list
+-- a maker that is up adds the update, and passes it at once
+up_maker_adds : shown (ticks 713000 (member up_by_two (update ∷ []))).process ≡ (id ∷ [], [], Some 6, 1)
+unfolding step kind_rule timed_duties duties is_up appended_list run_passed earlies_marked
 up_maker_adds = refl
 
 its_decision : option_map {U = ℕ × List Seat} (λ (d : Decision). (decision_length d, d.seats.items)) (ticks 713000 (member up_by_two (update ∷ []))).out.made
@@ -94,8 +96,8 @@ its_decision : option_map {U = ℕ × List Seat} (λ (d : Decision). (decision_l
 unfolding step kind_rule timed_duties duties is_up appended_list
 its_decision = refl
 
-other_maker_doesnt : shown (ticks 713000 (member (decision 5 2 None [] 1) (update ∷ []))).process ≡ ([], id ∷ [], Some 6)
-unfolding step kind_rule timed_duties duties is_up appended_list
+other_maker_doesnt : shown (ticks 713000 (member (decision 5 2 None [] 1) (update ∷ []))).process ≡ ([], id ∷ [], Some 6, 0)
+unfolding step kind_rule timed_duties duties is_up appended_list run_passed earlies_marked
 other_maker_doesnt = refl
 
 -- ---- taken, or held
@@ -112,7 +114,8 @@ first = decision 0 1 None [] 1
 abbrev next : Decision
 next = decision 1 1 None (entry ∷ []) 2
 
-taken : shown (receives next (member first (update ∷ []))).process ≡ (id ∷ [], [], Some 1)
+-- by this decision, which one member supports, it isn't up, and passes nothing
+taken : shown (receives next (member first (update ∷ []))).process ≡ (id ∷ [], [], Some 1, 0)
 unfolding step kind_rule timed_duties duties is_up appended_list
 taken = refl
 
@@ -120,7 +123,7 @@ taken_answer : (receives next (member first (update ∷ []))).answer ≡ Done
 unfolding step kind_rule timed_duties duties is_up appended_list
 taken_answer = refl
 
-held : shown (receives next (member first [])).process ≡ ([], [], Some 0)
+held : shown (receives next (member first [])).process ≡ ([], [], Some 0, 0)
 unfolding step kind_rule timed_duties duties is_up appended_list
 held = refl
 
@@ -152,7 +155,7 @@ group_from_it : option_map {U = ℕ × ℕ} (λ (d : Decision). (d.group, decisi
 unfolding step kind_rule timed_duties duties is_up appended_list
 group_from_it = refl
 
-its_list : shown (ticks 713000 (elector (update ∷ []))).process ≡ (id ∷ [], [], Some 0)
+its_list : shown (ticks 713000 (elector (update ∷ []))).process ≡ (id ∷ [], [], Some 0, 0)
 unfolding step kind_rule timed_duties duties is_up appended_list
 its_list = refl
 

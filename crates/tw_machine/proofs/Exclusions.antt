@@ -11,6 +11,8 @@ use Rattle.tw_types.specs.Waiting.{payloads_of}
 use Rattle.tw_types.specs.Groups.{NoGroup, group_made, first_decision, objections, first_objection}
 use Rattle.tw_types.specs.Turns.{is_turn, next_decision}
 use Rattle.tw_types.specs.Beliefs.{Log, last_of}
+use Rattle.tw_types.specs.Decisions.{or_none}
+use Rattle.tw_types.specs.Flag.{is_up}
 use Rattle.tw_types.specs.Votes.{Vote}
 use Rattle.tw_types.specs.declared.message.Kept.{Kept}
 use Rattle.tw_types.specs.declared.message.Member.{Member}
@@ -22,6 +24,7 @@ use Rattle.tw_machine.specs.Electing.{has_spent_ballot, ballot_dropped, drop_bal
 use Rattle.tw_machine.specs.Deciding.{has_turn, entries_to_add, turn_taken, take_turn}
 use Rattle.tw_machine.specs.Grouping.{begun_or_held, make_group}
 use Rattle.tw_machine.specs.Sending.{datagram_to, sent_to_others}
+use Rattle.tw_machine.specs.Delivering.{all_delivered, deliver}
 use Rattle.tw_machine.specs.Duties.{timed_duties}
 use Rattle.tw_machine.proofs.Ends.{by_group}
 use Rattle.tw_machine.specs.Beating.{is_repeated, repeat_decision}
@@ -186,10 +189,22 @@ drop_quiet team t r = go (has_spent_ballot team t r.process)
     go true = (record { belief = refl; vote = refl; few = omega arith }, refl)
     go false = (record { belief = refl; vote = refl; few = omega arith }, refl)
 
+-- at most one datagram more was sent than so many, or nothing is to be repeated
+abbrev FewOrNone : Team → (t sent : ℕ) → Run → Type 0
+FewOrNone team t sent r = (length r.out.sends ≤ sent + 1) ⊎ RepeatsNone team t r.process
+
+-- what is delivered changes nothing in this
+deliver_keeps : (team : Team) (t sent : ℕ) (r : Run) → FewOrNone team t sent r → FewOrNone team t sent (deliver team t r)
+deliver_keeps team t sent r end = go (is_up team r.process.vote r.process.belief (Some t))
+  where
+    go : (up : Bool) → FewOrNone team t sent (cond up (all_delivered team (or_none (last_decision r.process)) r) r)
+    go true = end
+    go false = end
+
 pub timed_or_repeated : (team : Team) (now : Moment) (t : ℕ) (r : Run) → 0 < team.decide → ((last : Decision) → last_decision r.process ≡ Some last → last.group ≤ r.process.vote.promised)
     → (length (timed_duties team now t r).out.sends ≤ length r.out.sends + 1) ⊎ RepeatsNone team t (timed_duties team now t r).process
 unfolding timed_duties
-timed_or_repeated team now t r long kept = by_turn (turn_made team now t a)
+timed_or_repeated team now t r long kept = deliver_keeps team t (length r.out.sends) (begin_election team now t c) (by_turn (turn_made team now t a))
   where
     a : Run
     a = drop_ballot team t r
@@ -201,8 +216,7 @@ timed_or_repeated team now t r long kept = by_turn (turn_made team now t a)
     c = make_group team now t (take_turn team now t (drop_ballot team t r))
 
     End : Type 0
-    End = (length (begin_election team now t (make_group team now t (take_turn team now t (drop_ballot team t r)))).out.sends ≤ length r.out.sends + 1)
-        ⊎ RepeatsNone team t (begin_election team now t (make_group team now t (take_turn team now t (drop_ballot team t r)))).process
+    End = FewOrNone team t (length r.out.sends) (begin_election team now t (make_group team now t (take_turn team now t (drop_ballot team t r))))
 
     made : MadeAt t c.process → End
     made k = inr (made_repeats_none team t (begin_election team now t c).process long (still_made t c.process (begin_election team now t c).process (election_belief team now t c) k))

@@ -24,6 +24,7 @@ use Rattle.tw_types.specs.declared.answer.Reason.TheVariants as reasons
 use Rattle.tw_types.specs.declared.outputs.Mode.TheVariants.{First}
 use Rattle.tw_types.specs.Examples.{team_a}
 use Rattle.tw_types.specs.Beliefs.{Informed}
+use Rattle.tw_types.specs.Deliveries.{passes, run_passed, earlies, earlies_marked}
 use Rattle.tw_types.specs.Flag.{is_up}
 use Rattle.tw_types.specs.Outputs.{nothing}
 use Rattle.tw_types.specs.Process.{Process, ToTake, started}
@@ -84,7 +85,7 @@ hears from p = reads_at 713000 (record p { timing = record (p.timing) { heard = 
 
 -- this answer, and nothing is given
 abbrev alone : RowAnswer → Process → Outcome
-alone answer p = record { process = p; answer = answer; out = nothing; promises = []; makings = []; sendings = [] }
+alone answer p = record { process = p; answer = answer; out = nothing; promises = []; makings = []; sendings = []; delivered = [] }
 
 -- it is dropped before anything is noted of it
 abbrev turned_away : Reason → Outcome
@@ -128,16 +129,16 @@ abbrev entry : Entry
 entry = record { id = update; order = orders.Total; atom = atoms.Weak; stamp = 5; late = false }
 
 no_round : everyhow (bodies.NoDecision 10 7 0 2 (record { items = [] }) (decision 7 0 699990)) ≡ unknown
-unfolding step timed_duties duties
+unfolding step timed_duties duties is_up
 no_round = refl
 
 no_state : everyhow (bodies.State 7 0 14 0 (record { items = [] })) ≡ unknown
-unfolding step timed_duties duties
+unfolding step timed_duties duties is_up
 no_state = refl
 
 -- bytes that are no datagram
 no_datagram : step team_a 713000 (Packet (Err faults.Version)) member ≡ turned_away (reasons.Wire faults.Version)
-unfolding step timed_duties duties
+unfolding step timed_duties duties is_up
 no_datagram = refl
 
 -- ---- kinds that are taken, forged in the same ways
@@ -146,38 +147,38 @@ abbrev strange : List Outcome
 strange = always reasons.Stranger
 
 forged_decision : forged (bodies.Decision (decision 7 1 699990)) ≡ strange
-unfolding step timed_duties duties
+unfolding step timed_duties duties is_up
 forged_decision = refl
 
 forged_election : forged (bodies.Election 8 (whys.Join 7)) ≡ strange
-unfolding step timed_duties duties
+unfolding step timed_duties duties is_up
 forged_election = refl
 
 forged_promise : forged (bodies.Promise 9 (report 1 kinds.Ready 0 5) None) ≡ strange
-unfolding step timed_duties duties
+unfolding step timed_duties duties is_up
 forged_promise = refl
 
 forged_update : forged (bodies.Update (record { entry = entry; early = false; payload = record { items = [] } })) ≡ strange
-unfolding step timed_duties duties
+unfolding step timed_duties duties is_up
 forged_update = refl
 
 forged_question : forged (bodies.Ask (wants.Update update)) ≡ strange
-unfolding step timed_duties duties
+unfolding step timed_duties duties is_up
 forged_question = refl
 
 forged_sign_of_life : forged (bodies.Sync None) ≡ strange
-unfolding step timed_duties duties
+unfolding step timed_duties duties is_up
 forged_sign_of_life = refl
 
 -- ---- and as one of the team may send them
 
 a_sign_of_life : receives member 1 0 (bodies.Sync (Some (7, 0, 0))) ≡ alone Done (hears 1 member)
-unfolding step kind_rule timed_duties duties
+unfolding step kind_rule timed_duties duties is_up
 a_sign_of_life = refl
 
 -- what nobody holds is asked for
 a_question : receives member 1 0 (bodies.Ask (wants.Table 7)) ≡ refused 1 reasons.NotHeld
-unfolding step kind_rule timed_duties duties
+unfolding step kind_rule timed_duties duties is_up
 a_question = refl
 
 -- an election of the number's owner, of another one, of a number that is promised, and of one who is stuck alone
@@ -189,20 +190,21 @@ an_election : receives member 2 0 (bodies.Election 8 (whys.Join 7)) ≡ record {
   promises = record { number = 8; report = report 0 kinds.Informed 7 0; decision = Some (decision 7 0 699990) } ∷ [];
   makings = [];
   sendings = [];
+  delivered = [];
 }
-unfolding step kind_rule timed_duties duties
+unfolding step kind_rule timed_duties duties is_up
 an_election = refl
 
 of_another_owner : receives member 1 0 (bodies.Election 8 (whys.Join 7)) ≡ refused 1 reasons.OutOfWindow
-unfolding step kind_rule timed_duties duties
+unfolding step kind_rule timed_duties duties is_up
 of_another_owner = refl
 
 of_what_is_promised : receives member 1 0 (bodies.Election 7 (whys.Join 7)) ≡ refused 1 (reasons.Promised 7)
-unfolding step kind_rule timed_duties duties
+unfolding step kind_rule timed_duties duties is_up
 of_what_is_promised = refl
 
 of_one_who_is_stuck : receives member 2 0 (bodies.Election 8 whys.Stuck) ≡ refused 2 reasons.Unwilling
-unfolding step kind_rule timed_duties duties
+unfolding step kind_rule timed_duties duties is_up
 of_one_who_is_stuck = refl
 
 -- a decision that is taken, the same again, one that names another life of this process, and one of a greater group
@@ -211,26 +213,26 @@ abbrev takes : Decision → Process
 takes d = record (hears 1 member) { belief = Informed (Some d) }
 
 the_next_turn : receives member 1 0 (bodies.Decision (decision 7 1 699990)) ≡ alone Done (takes (decision 7 1 699990))
-unfolding step kind_rule timed_duties duties
+unfolding step kind_rule timed_duties duties is_up
 the_next_turn = refl
 
 the_same_again : receives member 1 0 (bodies.Decision (decision 7 0 699990)) ≡ refused 1 reasons.Old
-unfolding step kind_rule timed_duties duties
+unfolding step kind_rule timed_duties duties is_up
 the_same_again = refl
 
 of_another_life : receives member 1 0 (bodies.Decision (decision 7 1 699991)) ≡ refused 1 reasons.NotMember
-unfolding step kind_rule timed_duties duties
+unfolding step kind_rule timed_duties duties is_up
 of_another_life = refl
 
 of_a_greater_group : receives member 1 0 (bodies.Decision (decision 8 0 699990)) ≡ refused 1 (reasons.Promised 7)
-unfolding step kind_rule timed_duties duties
+unfolding step kind_rule timed_duties duties is_up
 of_a_greater_group = refl
 
 -- Decisions whose list doesn't go on: one begins behind the end of the process's list, and one has an entry without a payload. That
 -- one is held, and its maker is asked, whoever sent it.
 
 behind_a_gap : receives member 1 0 (bodies.Decision (record (decision 7 1 699990) { low = 1 })) ≡ refused 1 reasons.Gap
-unfolding step kind_rule timed_duties duties
+unfolding step kind_rule timed_duties duties is_up
 behind_a_gap = refl
 
 abbrev of_an_update : Decision
@@ -246,8 +248,9 @@ without_a_payload : receives member 2 0 (bodies.Decision of_an_update) ≡ recor
   promises = [];
   makings = [];
   sendings = [];
+  delivered = [];
 }
-unfolding step kind_rule timed_duties duties
+unfolding step kind_rule timed_duties duties is_up
 without_a_payload = refl
 
 -- A decision of the last turn is taken, and its next one is never made. That of any other turn is, by the member after its maker.
@@ -256,11 +259,11 @@ abbrev by_the_last : ℕ → Decision
 by_the_last turn = record (decision 7 turn 699990) { maker = 2 }
 
 nor_at_once : receives member 1 0 (bodies.Decision (by_the_last (2 ^ 60 - 1))) ≡ alone Done (takes (by_the_last (2 ^ 60 - 1)))
-unfolding step kind_rule timed_duties duties
+unfolding step kind_rule timed_duties duties is_up
 nor_at_once = refl
 
 and_no_next : step team_a 723000 Tick (takes (by_the_last (2 ^ 60 - 1))) ≡ alone Done (reads_at 723000 (takes (by_the_last (2 ^ 60 - 1))))
-unfolding step kind_rule timed_duties duties
+unfolding step kind_rule timed_duties duties is_up
 and_no_next = refl
 
 abbrev made_next : Decision
@@ -277,8 +280,9 @@ else_the_next : receives member 1 0 (bodies.Decision (by_the_last 5)) ≡ record
   promises = [];
   makings = record { decision = made_next; before = Some (by_the_last 5); reports = []; appended = [] } ∷ [];
   sendings = [];
+  delivered = [];
 }
-unfolding step kind_rule timed_duties duties is_up
+unfolding step kind_rule timed_duties duties is_up passes run_passed earlies earlies_marked
 else_the_next = refl
 
 -- Promises of an informed process that names a turn of no decision, and of a ready one, join the ballot. One of another number, and a
@@ -298,17 +302,17 @@ abbrev promises_to : ℕ → Process → Report → Outcome
 promises_to number p given = receives p 1 0 (bodies.Promise number given None)
 
 of_no_decision : promises_to 9 (elector (own ∷ [])) (report 1 kinds.Informed 0 5) ≡ alone Done (hears 1 (elector (own ∷ report 1 kinds.Informed 0 5 ∷ [])))
-unfolding step kind_rule timed_duties duties
+unfolding step kind_rule timed_duties duties is_up
 of_no_decision = refl
 
 of_a_ready_one : promises_to 9 (elector (own ∷ [])) (report 1 kinds.Ready 0 5) ≡ alone Done (hears 1 (elector (own ∷ report 1 kinds.Ready 0 5 ∷ [])))
-unfolding step kind_rule timed_duties duties
+unfolding step kind_rule timed_duties duties is_up
 of_a_ready_one = refl
 
 of_another_number : promises_to 10 (elector (own ∷ [])) (report 1 kinds.Ready 0 5) ≡ alone (Dropped reasons.Old) (hears 1 (elector (own ∷ [])))
-unfolding step kind_rule timed_duties duties
+unfolding step kind_rule timed_duties duties is_up
 of_another_number = refl
 
 a_second_one : promises_to 9 (elector (own ∷ report 1 kinds.Ready 0 5 ∷ [])) (report 1 kinds.Informed 0 5) ≡ alone (Dropped reasons.Old) (hears 1 (elector (own ∷ report 1 kinds.Ready 0 5 ∷ [])))
-unfolding step kind_rule timed_duties duties
+unfolding step kind_rule timed_duties duties is_up
 a_second_one = refl

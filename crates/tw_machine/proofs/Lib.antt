@@ -11,6 +11,9 @@ pub mod Exclusions
 pub mod Complete
 pub mod Causes
 pub mod Steps
+pub mod Told
+pub mod Applied
+pub mod Meanings
 mod Worked
 mod GroupsWorked
 mod HistoryWorked
@@ -19,6 +22,8 @@ mod EntriesWorked
 mod SendsWorked
 mod SendsScheduled
 mod SendsHistory
+mod DeliveriesScheduled
+mod TablesWorked
 mod TimeEdges
 mod MayFollow
 mod Decided

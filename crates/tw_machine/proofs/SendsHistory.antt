@@ -6,6 +6,7 @@ use Rattle.tw_types.specs.declared.message.Atom.TheVariants as atoms
 use Rattle.tw_types.specs.declared.message.Kept.{Kept}
 use Rattle.tw_types.specs.declared.message.Decision.{Decision}
 use Rattle.tw_types.specs.Appending.{appended_list, appended_kept}
+use Rattle.tw_types.specs.Deliveries.{passes, run_passed, earlies, earlies_marked}
 use Rattle.tw_types.specs.Examples.{team_a}
 use Rattle.tw_types.specs.Flag.{is_up}
 use Rattle.tw_machine.specs.Step.{step}
@@ -31,7 +32,7 @@ abbrev lists : List Make → List (ℕ × (ℕ × ℕ) × Option (ℕ × ℕ) ×
 lists items = map (λ (m : Make). (m.who, (m.making.decision.group, m.making.decision.turn), option_map (λ (d : Decision). (d.group, d.turn)) m.making.before, m.making.appended, m.log)) items
 
 missing_sends : (history team_a a_missing_payload_comes).sends ≡ the_send ∷ []
-unfolding is_up step kind_rule timed_duties duties appended_list
+unfolding is_up step kind_rule timed_duties duties appended_list appended_kept passes run_passed earlies earlies_marked
 missing_sends = refl
 
 -- process 0, which makes 7.2, never had the update; process 1 appends its own to 7.3
@@ -41,7 +42,7 @@ missing_lists : lists (history team_a a_missing_payload_comes).makes ≡
     ∷ (2, (7, 1), Some (7, 0), [], [])
     ∷ (1, (7, 0), None, [], [])
     ∷ []
-unfolding is_up step kind_rule timed_duties duties appended_list appended_kept
+unfolding is_up step kind_rule timed_duties duties appended_list appended_kept passes run_passed earlies earlies_marked
 missing_lists = refl
 
 -- a later decision of the group appends nothing more, and its list is that of before
@@ -52,12 +53,12 @@ held_lists : lists (history team_a a_newer_one_is_held).makes ≡
     ∷ (2, (7, 1), Some (7, 0), [], [])
     ∷ (1, (7, 0), None, [], [])
     ∷ []
-unfolding is_up step kind_rule timed_duties duties appended_list appended_kept
+unfolding is_up step kind_rule timed_duties duties appended_list appended_kept passes run_passed earlies earlies_marked
 held_lists = refl
 
 -- an update that is given as an answer is not sent once more
 group_sends : (history team_a a_group_lacks_a_payload).sends ≡ the_send ∷ []
-unfolding is_up step kind_rule timed_duties duties appended_list
+unfolding is_up step kind_rule timed_duties duties appended_list appended_kept passes run_passed earlies earlies_marked
 group_sends = refl
 
 -- a group that is made on 7.3 has its list too, and appends nothing
@@ -68,5 +69,5 @@ group_lists : lists (history team_a a_group_lacks_a_payload).makes ≡
     ∷ (2, (7, 1), Some (7, 0), [], [])
     ∷ (1, (7, 0), None, [], [])
     ∷ []
-unfolding is_up step kind_rule timed_duties duties appended_list appended_kept
+unfolding is_up step kind_rule timed_duties duties appended_list appended_kept passes run_passed earlies earlies_marked
 group_lists = refl

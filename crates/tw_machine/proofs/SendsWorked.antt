@@ -22,6 +22,7 @@ use Rattle.tw_types.specs.declared.outputs.Mode.TheVariants.{First}
 use Rattle.tw_types.specs.Appending.{appended_list}
 use Rattle.tw_types.specs.Beliefs.{Informed}
 use Rattle.tw_types.specs.Examples.{team_a}
+use Rattle.tw_types.specs.Deliveries.{run_passed, earlies_marked}
 use Rattle.tw_types.specs.Flag.{is_up}
 use Rattle.tw_types.specs.Process.{Process, Purpose, ToTake, ToGroup, started}
 use Rattle.tw_types.specs.Waiting.{Held}
@@ -97,7 +98,7 @@ unfolding step kind_rule timed_duties duties is_up appended_list
 one_sent = refl
 
 it_waits : shown (send 1 (member (supported 1 1) 1 [])).process ≡ ([], id 0 1 ∷ [], None, 2)
-unfolding step kind_rule timed_duties duties is_up appended_list
+unfolding step kind_rule timed_duties duties is_up appended_list run_passed earlies_marked
 it_waits = refl
 
 to_all_others : sends (send 1 (member (supported 1 1) 1 []))
@@ -173,7 +174,7 @@ full_before_spent = refl
 
 -- a refused send changes nothing, and its duties are done
 nothing_given : shown (send 1 (member (supported 3 1) 11 [])).process ≡ ([], [], None, 11)
-unfolding step kind_rule timed_duties duties is_up appended_list
+unfolding step kind_rule timed_duties duties is_up appended_list run_passed earlies_marked
 nothing_given = refl
 
 its_beat : sends (send 1 (record (member (supported 3 1) 11 []) { beat = record { last = None } })) ≡ (1, bodies.Sync None) ∷ (2, bodies.Sync None) ∷ []
@@ -196,7 +197,7 @@ unfolding step kind_rule timed_duties duties is_up appended_list
 becomes_pending = refl
 
 waits_in_order : shown (receives (bodies.Update (update (id 1 3))) (member (supported 3 3) 3 (update (id 1 4) ∷ []))).process ≡ ([], id 1 3 ∷ id 1 4 ∷ [], None, 3)
-unfolding step kind_rule timed_duties duties is_up appended_list
+unfolding step kind_rule timed_duties duties is_up appended_list run_passed earlies_marked
 waits_in_order = refl
 
 of_no_member : answer_to (record (id 1 3) { incarnation = 5 }) ≡ Dropped reasons.NotMember
@@ -249,15 +250,20 @@ abbrev fills : Process → Outcome
 fills p = receives (bodies.Update (update (id 1 2))) p
 
 taken : shown (fills (holder ToTake 7)).process ≡ (id 1 1 ∷ id 1 2 ∷ [], [], None, 1)
-unfolding step kind_rule timed_duties duties is_up appended_list
+unfolding step kind_rule timed_duties duties is_up appended_list run_passed earlies_marked
 taken = refl
+
+-- both are passed at once
+both_passed : (fills (holder ToTake 7)).process.log.passed ≡ 2
+unfolding step kind_rule timed_duties duties is_up appended_list run_passed earlies_marked
+both_passed = refl
 
 as_its_last : option_map (λ (d : Decision). d.turn) (last_decision (fills (holder ToTake 7)).process) ≡ Some 1
 unfolding step kind_rule timed_duties duties is_up appended_list
 as_its_last = refl
 
 released_by_a_promise : shown (fills (holder ToTake 9)).process ≡ ([], id 1 1 ∷ [], None, 1)
-unfolding step kind_rule timed_duties duties is_up appended_list
+unfolding step kind_rule timed_duties duties is_up appended_list run_passed earlies_marked
 released_by_a_promise = refl
 
 done_all_the_same : (fills (holder ToTake 9)).answer ≡ Done
@@ -265,11 +271,11 @@ unfolding step kind_rule timed_duties duties is_up appended_list
 done_all_the_same = refl
 
 released_by_a_greater : shown (fills (record (holder ToGroup 7) { belief = Informed (Some (record (supported 1 1) { turn = 2 })) })).process ≡ ([], id 1 1 ∷ [], None, 1)
-unfolding step kind_rule timed_duties duties is_up appended_list
+unfolding step kind_rule timed_duties duties is_up appended_list run_passed earlies_marked
 released_by_a_greater = refl
 
 stays_for_a_group : shown (fills (holder ToGroup 7)).process ≡ ([], id 1 1 ∷ [], Some 1, 1)
-unfolding step kind_rule timed_duties duties is_up appended_list
+unfolding step kind_rule timed_duties duties is_up appended_list run_passed earlies_marked
 stays_for_a_group = refl
 
 with_its_payload : option_map (λ (h : Held). ids h.payloads) (fills (holder ToGroup 7)).process.waiting.held ≡ Some (id 1 1 ∷ id 1 2 ∷ [])
@@ -290,13 +296,17 @@ of_its_own = record (holder ToTake 7) {
 }
 
 hole_before_own : shown (receives (bodies.Update (update (id 0 1))) of_its_own).process ≡ (id 0 1 ∷ [], [], None, 1)
-unfolding step kind_rule timed_duties duties is_up appended_list
+unfolding step kind_rule timed_duties duties is_up appended_list run_passed earlies_marked
 hole_before_own = refl
 
 -- and so does a send, which is sent all the same
 sent_into_a_hole : shown (send 1 of_its_own).process ≡ (id 0 1 ∷ [], [], None, 2)
-unfolding step kind_rule timed_duties duties is_up appended_list
+unfolding step kind_rule timed_duties duties is_up appended_list run_passed earlies_marked
 sent_into_a_hole = refl
+
+and_passed : (send 1 of_its_own).process.log.passed ≡ 1
+unfolding step kind_rule timed_duties duties is_up appended_list run_passed earlies_marked
+and_passed = refl
 
 and_sent : map (λ (s : ℕ × Datagram). s.0) (send 1 of_its_own).out.sends ≡ 1 ∷ 2 ∷ []
 unfolding step kind_rule timed_duties duties is_up appended_list
@@ -309,7 +319,7 @@ with_two = record (holder ToTake 9) {
 }
 
 one_of_two : shown (fills with_two).process ≡ ([], [], Some 1, 1)
-unfolding step kind_rule timed_duties duties is_up appended_list
+unfolding step kind_rule timed_duties duties is_up appended_list run_passed earlies_marked
 one_of_two = refl
 
 -- ---- questions

@@ -9,6 +9,7 @@ use Rattle.tw_types.specs.declared.row.RowAnswer.TheVariants.{Done}
 use Rattle.tw_types.specs.declared.outputs.Mode.TheVariants.{First}
 use Rattle.tw_types.specs.Examples.{team_a}
 use Rattle.tw_types.specs.Team.{fault_of}
+use Rattle.tw_types.specs.Flag.{is_up}
 use Rattle.tw_types.specs.Process.{started}
 use Rattle.tw_machine.specs.Event.{Packet, Tick, Reference, Outcome}
 use Rattle.tw_machine.specs.Rules.{kind_rule}
@@ -32,11 +33,11 @@ abbrev tells : ℕ → List (Option Interval)
 tells hi = map (λ (s : ℕ × Datagram). s.1.head.interval) (step drifting 1151768583102240157 Tick (step drifting 5 (Reference 0 hi) (started 0 First 5)).process).out.sends
 
 last_told : tells 1152921504606846951 ≡ Some (between 1150617965137103047 (2 ^ 61 - 1)) ∷ Some (between 1150617965137103047 (2 ^ 61 - 1)) ∷ []
-unfolding step timed_duties duties
+unfolding step timed_duties duties is_up
 last_told = refl
 
 not_told : tells 1152921504606846952 ≡ None ∷ None ∷ []
-unfolding step timed_duties duties
+unfolding step timed_duties duties is_up
 not_told = refl
 
 -- ---- an echo gives a bound where neither clock fell
@@ -52,22 +53,22 @@ abbrev given : (a b : ℕ) → List Given
 given a b = (hears a b).process.timing.clock.given
 
 just_now : given 10 100 ≡ record { h = 10; interval = between 99 102 } ∷ []
-unfolding step kind_rule timed_duties duties
+unfolding step kind_rule timed_duties duties is_up
 just_now = refl
 
 -- it is no fault, and nothing is learnt of team time
 not_sent_yet : given 11 100 ≡ []
-unfolding step kind_rule timed_duties duties
+unfolding step kind_rule timed_duties duties is_up
 not_sent_yet = refl
 
 done_at_once : (hears 11 100).answer ≡ Done
-unfolding step kind_rule timed_duties duties
+unfolding step kind_rule timed_duties duties is_up
 done_at_once = refl
 
 heard_later : given 10 101 ≡ []
-unfolding step kind_rule timed_duties duties
+unfolding step kind_rule timed_duties duties is_up
 heard_later = refl
 
 done_all_the_same : (hears 10 101).answer ≡ Done
-unfolding step kind_rule timed_duties duties
+unfolding step kind_rule timed_duties duties is_up
 done_all_the_same = refl

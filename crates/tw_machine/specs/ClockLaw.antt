@@ -3,6 +3,7 @@ use Rattle.std.specs.Prelude.{ℕ, ◌+◌, ◌≤◌, List, [], ◌∷◌, IfSo
 use Rattle.tw_types.specs.declared.team.Team.{Team}
 use Rattle.tw_types.specs.declared.step.Step.{Step}
 use Rattle.tw_types.specs.Row.{Row}
+use Rattle.tw_machine.specs.Applied.{Meaning}
 use Rattle.tw_machine.specs.Rows.{row_of}
 
 -- a reading is at most eps away from team time t, on either side
@@ -15,6 +16,6 @@ abbrev pub ReadsNear : ℕ → Step → Row → Type 0
 ReadsNear eps s r = IfSome r.reading (λ reading. IsNear eps s.t reading)
 
 -- each step's row reads near its team time
-abbrev pub ReadsWell : Team → List Step → Type 0
-ReadsWell team [] = Unit {0}
-ReadsWell team (s ∷ past) = ReadsWell team past × ReadsNear team.eps s (row_of team past s)
+abbrev pub ReadsWell : {Content : Type 0} → Meaning Content → Team → List Step → Type 0
+ReadsWell meaning team [] = Unit {0}
+ReadsWell meaning team (s ∷ past) = ReadsWell meaning team past × ReadsNear team.eps s (row_of meaning team past s)

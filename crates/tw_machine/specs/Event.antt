@@ -8,6 +8,7 @@ use Rattle.tw_types.specs.declared.row.RowAnswer.{RowAnswer}
 use Rattle.tw_types.specs.declared.outputs.Outputs.{Outputs}
 use Rattle.tw_types.specs.Process.{Process}
 use Rattle.tw_types.specs.Sends.{Sending}
+use Rattle.tw_machine.specs.Run.{Delivered}
 use Rattle.tw_types.specs.Votes.{Promise, Making}
 
 -- Time passed; bytes came, of which the wire says what they are; team time is known to lie from lo to hi; or the process is to send an
@@ -27,3 +28,4 @@ pub record Outcome : Type 0 where
   pub promises : List Promise
   pub makings : List Making
   pub sendings : List Sending
+  pub delivered : List Delivered

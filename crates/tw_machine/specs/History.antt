@@ -1,6 +1,6 @@
 -- What the processes of a schedule promised, made and sent, and when they were up: lists beside the world, the newest item first.
 -- The laws on groups speak of these lists at one moment; no contract of a function that runs reads them.
-use Rattle.std.specs.Prelude.{ℕ, suc, ◌==◌, Bool, true, false, ◌&&◌, if◌then◌else◌, List, [], ◌∷◌, ◌++◌, find, Option, Some, None}
+use Rattle.std.specs.Prelude.{ℕ, suc, ◌+◌, ◌==◌, Bool, true, false, ◌&&◌, if◌then◌else◌, List, [], ◌∷◌, ◌++◌, length, find, Option, Some, None}
 use Rattle.std.specs.Option.{option_map_or}
 use Rattle.tw_types.specs.declared.team.Team.{Team}
 use Rattle.tw_types.specs.declared.message.Member.{Member}
@@ -11,6 +11,7 @@ use Rattle.tw_types.specs.Votes.{Promise, Making}
 use Rattle.tw_types.specs.Process.{Process}
 use Rattle.tw_types.specs.Sends.{Sending}
 use Rattle.tw_machine.specs.Admissible.{is_start}
+use Rattle.tw_machine.specs.Run.{Delivered}
 use Rattle.tw_machine.specs.Standing.{member_of, last_decision}
 use Rattle.tw_machine.specs.Step.{view_of}
 use Rattle.tw_machine.specs.World.{Deed, deed_in, world}
@@ -47,6 +48,14 @@ pub record SentUpdate : Type 0 where
   pub h : ℕ
   pub sending : Sending
 
+-- An update that was delivered or passed: the number of the row that tells it, by whom, and what was told of it.
+pub record Line : Type 0 where
+  pub row : ℕ
+  pub who : ℕ
+  pub member : Member
+  pub life : ℕ
+  pub delivered : Delivered
+
 -- a process that was up after its step, at this reading and with this last decision
 pub record Up : Type 0 where
   pub who : ℕ
@@ -61,10 +70,11 @@ pub record History : Type 0 where
   pub promises : List Promised
   pub makes : List Make
   pub sends : List SentUpdate
+  pub lines : List Line
   pub ups : List Up
 
 abbrev pub no_history : History
-no_history = record { promises = []; makes = []; sends = []; ups = [] }
+no_history = record { promises = []; makes = []; sends = []; lines = []; ups = [] }
 
 abbrev pub promise_item : ℕ → Step → Promise → Promised
 promise_item life s given = record { who = s.who; life = life; t = s.t; h = s.h; promise = given }
@@ -102,6 +112,13 @@ abbrev pub sends_on : Member → ℕ → Step → List Sending → List SentUpda
 sends_on member life s [] older = older
 sends_on member life s (sending ∷ more) older = sends_on member life s more (send_item member life s sending ∷ older)
 
+abbrev pub line_item : (row : ℕ) → Member → ℕ → Step → Delivered → Line
+line_item row member life s delivered = record { row = row; who = s.who; member = member; life = life; delivered = delivered }
+
+abbrev pub lines_on : (row : ℕ) → Member → ℕ → Step → List Delivered → List Line → List Line
+lines_on row member life s [] older = older
+lines_on row member life s (delivered ∷ more) older = lines_on row member life s more (line_item row member life s delivered ∷ older)
+
 -- a process that is up after this step, at its reading and with its last decision
 abbrev pub up_at : ℕ → Step → Process → ℕ → Decision → Up
 up_at life s p reading last = record { who = s.who; member = member_of p.identity; life = life; t = s.t; group = last.group; reading = reading; last = last }
@@ -127,16 +144,21 @@ abbrev pub sends_by : ℕ → Step → Option Process → List Sending → List 
 sends_by life s None sendings older = older
 sends_by life s (Some p) sendings older = sends_on (member_of p.identity) life s sendings older
 
--- the lists after a step that comes to this, in a life
-abbrev pub history_after : Team → ℕ → Step → Deed → History → History
-history_after team life s d older = record {
+abbrev pub lines_by : (row : ℕ) → ℕ → Step → Option Process → List Delivered → List Line → List Line
+lines_by row life s None delivered older = older
+lines_by row life s (Some p) delivered older = lines_on row (member_of p.identity) life s delivered older
+
+-- the lists after a step that comes to this, in a life, with the number of its row
+abbrev pub history_after : Team → (row : ℕ) → ℕ → Step → Deed → History → History
+history_after team row life s d older = record {
   promises = promises_on life s d.promises older.promises;
   makes = makes_by life s d.process d.makings older.makes;
   sends = sends_by life s d.process d.sendings older.sends;
+  lines = lines_by row life s d.process d.delivered older.lines;
   ups = up_by team life s d.process older.ups;
 }
 
 -- the lists after all steps of a schedule
 abbrev pub history : Team → List Step → History
 history team [] = no_history
-history team (s ∷ past) = history_after team (life s.who (s ∷ past)) s (deed_in team (world team past) s) (history team past)
+history team (s ∷ past) = history_after team (length past + 1) (life s.who (s ∷ past)) s (deed_in team (world team past) s) (history team past)

@@ -17,9 +17,11 @@ pub mod Grouping
 pub mod Updating
 pub mod Proposing
 pub mod Rules
+pub mod Delivering
 pub mod Duties
 pub mod Step
 pub mod World
+pub mod Applied
 pub mod RowText
 pub mod Rows
 pub mod History

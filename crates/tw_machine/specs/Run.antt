@@ -8,7 +8,23 @@ use Rattle.tw_types.specs.declared.row.RowAnswer.{RowAnswer}
 use Rattle.tw_types.specs.Outputs.{nothing}
 use Rattle.tw_types.specs.Process.{Process}
 use Rattle.tw_types.specs.Sends.{Sending}
+use Rattle.tw_types.specs.declared.message.Kept.{Kept}
+use Rattle.tw_types.specs.declared.outputs.How.{How}
 use Rattle.tw_types.specs.Votes.{Promise, Making}
+
+-- Where an update stood as it was delivered: it was passed at a position, in this way; or it went early, at a position of the list or while
+-- it waited.
+pub data Place : Type 0 where
+  AtPass : (position : ℕ) → (how : How) → Place
+  AtEarly : (position : ℕ) → Place
+  AtWait : Place
+
+-- an update that was delivered or passed, as it was then, and the group and turn of the last decision by which it was
+pub record Delivered : Type 0 where
+  pub group : ℕ
+  pub turn : ℕ
+  pub place : Place
+  pub update : Kept
 
 -- A process, and what it gave so far in this event: what is sent, printed and delivered, what it promised and made, and the updates that
 -- it sent for the first time, each in its order. A part of a step is a test and a change of this, and the part is the choice of the two.
@@ -18,10 +34,11 @@ pub record Run : Type 0 where
   pub promises : List Promise
   pub makings : List Making
   pub sendings : List Sending
+  pub delivered : List Delivered
 
 -- a process that gave nothing yet
 abbrev pub run_of : Process → Run
-run_of p = record { process = p; out = nothing; promises = []; makings = []; sendings = [] }
+run_of p = record { process = p; out = nothing; promises = []; makings = []; sendings = []; delivered = [] }
 
 -- these are sent too
 abbrev pub with_sends : List (ℕ × Datagram) → Run → Run

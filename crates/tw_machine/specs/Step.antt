@@ -65,7 +65,7 @@ abbrev pub ended_by : Team → ℕ → Event → Process → Run
 ended_by team h e p = if has_duties e then duties team (moment_of team h e p) (ruled_by team h e p).run else (ruled_by team h e p).run
 
 abbrev pub outcome_of : RowAnswer → Run → Outcome
-outcome_of answer r = record { process = r.process; answer = answer; out = r.out; promises = r.promises; makings = r.makings; sendings = r.sendings }
+outcome_of answer r = record { process = r.process; answer = answer; out = r.out; promises = r.promises; makings = r.makings; sendings = r.sendings; delivered = r.delivered }
 
 unfoldable pub step : Team → ℕ → Event → Process → Outcome
 step team h e p = outcome_of (ruled_by team h e p).answer (ended_by team h e p)

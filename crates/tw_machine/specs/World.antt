@@ -13,6 +13,7 @@ use Rattle.tw_types.specs.declared.outputs.Mode.TheVariants as modes
 use Rattle.tw_types.specs.Outputs.{nothing}
 use Rattle.tw_types.specs.Process.{Process, started}
 use Rattle.tw_types.specs.Sends.{Sending}
+use Rattle.tw_machine.specs.Run.{Delivered}
 use Rattle.tw_machine.specs.Event.{Event, Outcome}
 use Rattle.tw_machine.specs.Step.{step, looked}
 use Rattle.tw_machine.specs.Dispatches.{Dispatch, sent_at}
@@ -31,13 +32,14 @@ pub record Deed : Type 0 where
   pub promises : List Promise
   pub makings : List Making
   pub sendings : List Sending
+  pub delivered : List Delivered
 
 -- an act that gives nothing
 abbrev pub silent : Option Process → RowAnswer → Deed
-silent p answer = record { process = p; answer = answer; out = nothing; promises = []; makings = []; sendings = [] }
+silent p answer = record { process = p; answer = answer; out = nothing; promises = []; makings = []; sendings = []; delivered = [] }
 
 abbrev pub deed_of : Outcome → Deed
-deed_of o = record { process = Some o.process; answer = o.answer; out = o.out; promises = o.promises; makings = o.makings; sendings = o.sendings }
+deed_of o = record { process = Some o.process; answer = o.answer; out = o.out; promises = o.promises; makings = o.makings; sendings = o.sendings; delivered = o.delivered }
 
 abbrev pub happen : Team → ℕ → Event → Process → Deed
 happen team h e p = deed_of (step team h e p)

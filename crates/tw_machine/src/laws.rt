@@ -1,6 +1,6 @@
 //! Laws of every admissible schedule. Each is the contract of a function that does nothing.
 
-ghost use Rattle.std.specs.Prelude.{◌≡◌, ◌<◌, ◌≤◌, ◌^◌, ◌+◌, ◌↔◌, ◌⊎◌, ℕ, true, false, Some, Ok, List, length, None};
+ghost use Rattle.std.specs.Prelude.{◌≡◌, ◌<◌, ◌≤◌, ◌^◌, ◌+◌, ◌↔◌, ◌⊎◌, ℕ, true, false, Some, Ok, List, [], ◌∷◌, ◌++◌, map, length, None};
 ghost use Rattle.std.specs.List.{AllByRecursion};
 ghost use Rattle.tw_types.specs.declared.team.Team.{Team};
 ghost use Rattle.tw_types.specs.Team.{IsSound};
@@ -18,8 +18,16 @@ ghost use Rattle.tw_types.specs.Votes.{Promise};
 ghost use Rattle.tw_types.specs.Ballots.{wants};
 ghost use Rattle.tw_types.specs.Refusals.{first_refusal};
 ghost use Rattle.tw_types.specs.Waiting.{payloads_of, is_hole};
-ghost use Rattle.tw_types.specs.Logs.{list_tests, first_missing};
+ghost use Rattle.tw_types.specs.Logs.{list_tests, first_missing, log_at, log_after, passed_one, marked_at};
+ghost use Rattle.tw_types.specs.Beliefs.{Log, log_length};
+ghost use Rattle.tw_types.specs.Deliveries.{deliveries};
+ghost use Rattle.tw_types.specs.declared.outputs.Pass.{Pass};
+ghost use Rattle.tw_machine.specs.Applied.{payloads_in, payloads_applied};
+ghost use Rattle.tw_machine.specs.Delivering.{deliver};
+ghost use Rattle.tw_machine.specs.Event.{Event};
 ghost use Rattle.tw_machine.specs.Run.{Run};
+ghost use Rattle.tw_machine.specs.Step.{step};
+ghost use Rattle.tw_types.specs.Process.{Process};
 ghost use Rattle.tw_machine.specs.Standing.{member_of, last_decision};
 ghost use Rattle.tw_machine.specs.Control.{rate_of, timely_reading};
 ghost use Rattle.tw_machine.specs.Taking.{decision_tests};
@@ -111,4 +119,22 @@ pub fn updates_are_tested_in_order()
     ensures unchanged { (now : Moment) (k : Kept) (r : Run) (reason : Reason) → (take_update now k r).dropped ≡ Some reason → (take_update now k r).run ≡ r }
     ensures unanswered { (now : Moment) (from : ℕ) (want : Want) (r : Run) (reason : Reason) →
         (answer_ask now from want r).dropped ≡ Some reason → (answer_ask now from want r).run ≡ r }
+{}
+
+/// What is applied follows the passes: the update at the cursor is applied behind the others as it is passed, where it is total or
+/// timed and not late (`passed`); a decision's entries that are put behind the end (`grown`) and a mark of an early delivery
+/// (`marked`) apply nothing. So a process that delivers applies of its passes those that are total or timed and not late, in their
+/// order, and no others (`delivered`), and so does a step, whatever its event, of a process that passed no more than its list has
+/// (`stepped`).
+pub fn tables_follow_passes()
+    ensures passed { (log : Log) (k : Kept) → log_at log.passed log ≡ Some k →
+        payloads_applied (passed_one log) ≡ payloads_applied log ++ payloads_in (k ∷ []) }
+    ensures grown { (payloads : List Kept) (d : Decision) (log : Log) → log.passed ≤ log_length log →
+        payloads_applied (log_after payloads d log) ≡ payloads_applied log }
+    ensures marked { (position : ℕ) (log : Log) → payloads_applied (marked_at position log) ≡ payloads_applied log }
+    ensures delivered { (team : Team) (t : ℕ) (r : Run) → payloads_applied (deliver team t r).process.log ≡
+        payloads_applied r.process.log ++ payloads_in (map (λ (p : Pass). p.kept) (deliveries team (Some t) r.process).passes) }
+    ensures stepped { (team : Team) (h : ℕ) (e : Event) (p : Process) → p.log.passed ≤ log_length p.log →
+        payloads_applied (step team h e p).process.log ≡
+        payloads_applied p.log ++ payloads_in (map (λ (q : Pass). q.kept) (step team h e p).out.passes) }
 {}

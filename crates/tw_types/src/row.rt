@@ -71,7 +71,7 @@ impl Model for Row {
 }
 
 impl Row {
-    ghost use Rattle.std.specs.Prelude.{◌≡◌, [], IfOk};
+    ghost use Rattle.std.specs.Prelude.{◌≡◌, ◌≤◌, length, IfOk};
     ghost use Rattle.tw_types.specs.Printed.{blank, row_printed};
 
     /// A row of nothing, with room for what a step may give.
@@ -97,14 +97,16 @@ impl Row {
         })
     }
 
-    /// Makes this the row of a step that gave `out` and shows no table. `first` is the number of the first datagram that the
-    /// step sent. The outputs that the row had before are handed back in `out`.
-    pub fn fill(&mut self, line: RowLine, out: &mut Outputs, first: u32)
-        ensures { self.new ≡ row_printed line out.old first [] }
+    /// Makes this the row of a step that gave `out` and shows these entries of a table. `first` is the number of the first datagram
+    /// that the step sent. The outputs that the row had before are handed back in `out`.
+    pub fn fill(&mut self, line: RowLine, out: &mut Outputs, first: u32, entries: &[(u32, u64)])
+        requires { length entries.now ≤ 256 }
+        ensures { self.new ≡ row_printed line out.old first entries.now }
     {
         self.line = line;
         mem::swap(&mut self.out, out);
         self.first = first;
         self.entries.clear();
+        let _ = self.entries.try_extend_from_slice(entries);
     }
 }

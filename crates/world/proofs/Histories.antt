@@ -18,12 +18,12 @@ use Rattle.tw_machine.specs.Event.{Tick as TickEvent, Packet, Send as SendEvent,
 use Rattle.tw_machine.specs.World.{world, receive, deed, deed_in, Admissible}
 use Rattle.tw_machine.proofs.Tables.{same_number, equal_numbers, other_number}
 use Rattle.tw_machine.proofs.Steps.{step_not_before}
-use Rattle.node_core.specs.declared.state.State.{State}
 use Rattle.world.specs.declared.node.Node.{Node}
 use Rattle.world.specs.Deeds.{RunsAs, NotBefore}
 use Rattle.world.specs.NodeConditions.{kept_cause}
 use Rattle.world.specs.Bounds.{AreBoundsOf, admits}
 use Rattle.world.specs.Readings.{Reading, readings_of, latest_of}
+use Rattle.world.specs.Tables.{Running}
 use Rattle.world.specs.StandsFor.{IsKnown, NodeStandsFor}
 use Rattle.world.proofs.Drift.{drift_by_bounds, above_by_bounds}
 
@@ -135,7 +135,7 @@ running_is team (s ∷ past) who = go (nat_eq s.who who) refl (running_is team p
     go false e before = before
     go true e before = let same : s.who ≡ who = equal_numbers s.who who e in rw same (runs_step team who s.h (world team past).sent s.act _ _ before)
 
-started_running : (team : Team) (p : Option Process) (r : Option State) → RunsAs team r p → is_some r ≡ is_some p
+started_running : (team : Team) (p : Option Process) (r : Option Running) → RunsAs team r p → is_some r ≡ is_some p
 started_running team None None runs = refl
 started_running team (Some q) (Some r) runs = refl
 started_running team (Some q) None runs = absurd runs

@@ -7,11 +7,10 @@ use Rattle.tw_types.specs.declared.message.Atom.TheVariants.{Weak}
 use Rattle.tw_types.specs.declared.step.Act.TheVariants.{First, Again, Crash, Tick, Send}
 use Rattle.tw_types.specs.Examples.{team_a}
 use Rattle.tw_types.specs.Process.{Identity, Process, started}
-use Rattle.node_core.specs.declared.state.State.{State}
-use Rattle.node_core.specs.StandsFor as core
 use Rattle.world.specs.declared.world.World.{World}
 use Rattle.world.specs.Deeds.{IsReady}
 use Rattle.world.specs.StandsFor.{StandsFor}
+use Rattle.world.specs.Tables.{Running, Stands}
 
 -- process 0 started at 5
 abbrev fresh : Process
@@ -21,12 +20,12 @@ fresh = started 0 modes.First 5
 abbrev told : Process
 told = record fresh { timing = record { clock = record { given = record { h = 10; interval = record { lo = 10; hi = 10 } } ∷ []; greatest = None; disjoint = None }; heard = λ q. None } }
 
-module _ (c : State) (of_team : c.team ≡ team_a) (stands : core.StandsFor c fresh) where
+module _ (c : Running) (of_team : c.state.team ≡ team_a) (stands : Stands c fresh) where
   to_be_first : IsReady team_a 0 5 First (Some c) None
   to_be_first = (of_team, stands)
 
   started_otherwise : IsReady team_a 0 5 Again (Some c) None → ⊥
-  started_otherwise ready = let e : modes.Again ≡ modes.First = ap (λ (i : Identity). i.mode) (ready.1.identity ∙ sym stands.identity) in cc
+  started_otherwise ready = let e : modes.Again ≡ modes.First = ap (λ (i : Identity). i.mode) (ready.1.state.identity ∙ sym stands.state.identity) in cc
 
   for_a_tick : IsReady team_a 0 6 Tick (Some c) (Some fresh)
   for_a_tick = ((of_team, stands), tt, refl)
@@ -37,7 +36,7 @@ module _ (c : State) (of_team : c.team ≡ team_a) (stands : core.StandsFor c fr
   for_a_crash : IsReady team_a 0 6 Crash (Some c) (Some fresh)
   for_a_crash = ((of_team, stands), tt, refl)
 
-module _ (c : Option State) where
+module _ (c : Option Running) where
   without_a_process : IsReady team_a 0 6 Tick c None → ⊥
   without_a_process ready = let e : false ≡ true = ready.2 in cc
 

@@ -13,9 +13,9 @@ use Rattle.tw_types.specs.Printed.{row_printed}
 use Rattle.tw_machine.specs.Dispatches.{Dispatch, sent_at}
 use Rattle.tw_machine.specs.Admissible.{cause_of, may_receive}
 use Rattle.tw_machine.proofs.Tables.{all_joined, all_mapped}
-use Rattle.tw_machine.specs.Rows.{row_of, line_by}
+use Rattle.app_table.specs.Table.{Entry}
+use Rattle.tw_machine.specs.Rows.{row_of, line_by, entries_by}
 use Rattle.tw_machine.specs.World.{world, deed, deed_in}
-use Rattle.node_core.specs.declared.state.State.{State}
 use Rattle.node_core.specs.Sends.{IsSendable}
 use Rattle.world.specs.declared.node.Node.{Node}
 use Rattle.world.specs.declared.sent.Sent.{Sent}
@@ -24,6 +24,7 @@ use Rattle.world.specs.Datagrams.{datagrams, spelled, kept_as, WasSendable, Sent
 use Rattle.world.specs.Deeds.{IsDeed}
 use Rattle.world.specs.NodeConditions.{kept_cause, is_of, are_of, IsFresh}
 use Rattle.world.specs.StandsFor.{NodeStandsFor, StandsFor, IsSame}
+use Rattle.world.specs.Tables.{Running, entries_of}
 use Rattle.world.proofs.Histories.{cause_kept, next_other}
 
 -- ---- lists
@@ -138,10 +139,11 @@ next_world team past w new s q stands none own sent same steps latest items = re
     written i x (Left other old) = next_other team past s i x other (stands.each i x old)
 
 -- the row of a step, by what the step came to
-pub next_row : (team : Team) (past : List Step) (s : Step) (number first : ℕ) (c : Option State) (a : RowAnswer) (v : View) (out : Outputs) → number ≡ length past + 1 → first ≡ length (world team past).sent + 1
-    → IsDeed team s.h c a v out ((world team past).process_of s.who) (deed_in team (world team past) s)
-    → row_printed (line_by number s.who a v) out first [] ≡ row_of team past s
-next_row team past s number first c a v out n f deed = rw (n, f, deed.answer, deed.view, deed.out) refl
+pub next_row : (team : Team) (past : List Step) (s : Step) (number first : ℕ) (c : Option Running) (a : RowAnswer) (v : View) (out : Outputs) (entries : List Entry) → number ≡ length past + 1
+    → first ≡ length (world team past).sent + 1 → IsDeed team s.h c a v out ((world team past).process_of s.who) (deed_in team (world team past) s)
+    → entries ≡ entries_by entries_of s.act (deed_in team (world team past) s).process
+    → row_printed (line_by number s.who a v) out first entries ≡ row_of entries_of team past s
+next_row team past s number first c a v out entries n f deed shown = rw (n, f, deed.answer, deed.view, deed.out, shown) refl
 
 -- the process stands where it was looked for
 pub there : (xs : List Node) (i who : ℕ) (p : Node) → i ≡ who → who < length xs → p ≡ get_or xs i p → slice_get xs who ≡ Some p

@@ -3,6 +3,7 @@ pub mod Datagrams
 pub mod Readings
 pub mod Bounds
 pub mod Causes
+pub mod Tables
 pub mod NodeConditions
 pub mod Deeds
 pub mod StandsFor

@@ -5,8 +5,8 @@ use Rattle.tw_types.specs.declared.step.Step.{Step}
 use Rattle.tw_types.specs.declared.step.Cause.{Cause}
 use Rattle.tw_types.specs.declared.step.Cause.TheVariants.{Time, Drift, Start, NotRunning, NoDatagram, Reference as OutsideReference}
 use Rattle.tw_machine.specs.Admissible.{Condition, first_unmet, is_start, is_first, holds_time}
-use Rattle.node_core.specs.declared.state.State.{State}
 use Rattle.world.specs.declared.node.Node.{Node}
+use Rattle.world.specs.Tables.{Running}
 use Rattle.world.specs.Bounds.{admits, is_above}
 
 -- the conditions on a step at ppm, after steps of which the last was at this team time; what it receives was sent or not
@@ -34,9 +34,9 @@ pub record IsFresh (p : Node) : Type 0 where
 abbrev pub is_of : ℕ → Node → Bool
 is_of n p = of_core p.core
   where
-    of_core : Option State → Bool
+    of_core : Option Running → Bool
     of_core None = true
-    of_core (Some c) = c.team.n == n
+    of_core (Some c) = c.state.team.n == n
 
 abbrev pub are_of : ℕ → List Node → Bool
 are_of n processes = list_all (is_of n) processes

@@ -60,6 +60,7 @@ impl World {
     ghost use Rattle.tw_machine.specs.Rows.{row_of};
     ghost use Rattle.world.specs.Causes.{cause_told, cause_if};
     ghost use Rattle.world.specs.StandsFor.{StandsFor, IsSame};
+    ghost use Rattle.world.specs.Tables.{entries_of};
 
     /// A sound team before the first step: no process runs, and nothing was sent.
     pub fn new(alloc: Global, team: Team) -> Result<World, WantOfMemory>
@@ -119,7 +120,7 @@ impl World {
         requires act { IsAct step.now.act }
         requires steps { self.old.steps < 100000 }
         ensures taken { OnOk result ((team : TeamSeen) (past : List StepSeen) → StandsFor team past self.old →
-            cause_of team (world team past).sent past step.now ≡ None → StandsFor team (step.now ∷ past) self.new × (row.new ≡ row_of team past step.now)) }
+            cause_of team (world team past).sent past step.now ≡ None → StandsFor team (step.now ∷ past) self.new × (row.new ≡ row_of entries_of team past step.now)) }
         ensures steps { OnOk result (self.new.steps ≡ self.old.steps + 1) }
         ensures team { OnOk result (self.new.team ≡ self.old.team) }
         ensures same { OnErr result (IsSame self.new self.old) }
@@ -129,6 +130,7 @@ impl World {
         let node = &mut self.processes[usize::from(step.who)];
         node.note(self.alloc, &self.team, step)?;
         let (answer, view) = node.act(step, &self.sent, &mut self.out);
+        let entries = node.shown(&step.act);
         let first = self.sent.count() as u32 + 1;
         self.sent.keep(&self.team, &self.out.sends);
         self.steps += 1;
@@ -137,6 +139,7 @@ impl World {
             line(self.steps, step.who, answer, view),
             &mut self.out,
             first,
+            entries,
         );
         Ok(())
     }
@@ -153,7 +156,7 @@ impl World {
         requires steps { self.old.steps < 100000 }
         ensures taken { IfOk result (λ _. (team : TeamSeen) (past : List StepSeen) → StandsFor team past self.old →
             (cause_of team (world team past).sent past step.now ≡ None) × StandsFor team (step.now ∷ past) self.new
-            × (row.new ≡ row_of team past step.now)) }
+            × (row.new ≡ row_of entries_of team past step.now)) }
         ensures refused { IfErr result (λ why. (team : TeamSeen) (past : List StepSeen) → StandsFor team past self.old →
             cause_of team (world team past).sent past step.now ≡ cause_told why) }
         ensures same { IfErr result (λ _. IsSame self.new self.old) }

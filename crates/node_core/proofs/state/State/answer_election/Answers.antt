@@ -54,6 +54,8 @@ returns-clause-gives c = record {
     decision = rw c.last_copy-decision.ensures (told c.args.self.now.team.n (belief_seen c.args.self.now.belief) c.report-report.result _ c.requires.fits.view refl c.report-report.ensures.kind c.report-report.ensures.group c.report-report.ensures.turn);
   }) all;
   few = c.send_to.ensures.few;
+  passes = c.send_to.ensures.passes;
+  earlies = c.send_to.ensures.earlies;
 }
 
 pub returns-clause-fits : goal.returns-clause-fits

@@ -24,4 +24,4 @@ returns-clause-gives c =
     let n = c.args.self.now.team.n in
     let is : option_copied c.held_update.result ≡ Some c.in-Some.kept.now = rw c.in-Some.is refl in
     let listed : ListedFits n c.in-Some.kept.now = subst (λ (o : Option Kept). IfSome o (ListedFits n)) is c.held_update.ensures.fits in
-    record { fits = λ all. c.send_to.ensures.fits (λ head from incarnation. rw c.as_sent.ensures (sent_again_fits n c.in-Some.kept.now listed)) all; few = c.send_to.ensures.few }
+    record { fits = λ all. c.send_to.ensures.fits (λ head from incarnation. rw c.as_sent.ensures (sent_again_fits n c.in-Some.kept.now listed)) all; few = c.send_to.ensures.few; passes = c.send_to.ensures.passes; earlies = c.send_to.ensures.earlies }

@@ -35,6 +35,8 @@ pub returns-in-Some-clause-gives : goal.returns-in-Some-clause-gives
 returns-in-Some-clause-gives c = record {
   fits = λ all. c.send_to_others.ensures.fits (λ head from incarnation. record { number_fits = c.in-Some.ensures.fits.number; why_fits = rw c.in-Some.ensures.why tt }) all;
   few = c.send_to_others.ensures.few;
+  passes = c.send_to_others.ensures.passes;
+  earlies = c.send_to_others.ensures.earlies;
 }
 
 pub returns-in-Some-clause-fits : goal.returns-in-Some-clause-fits

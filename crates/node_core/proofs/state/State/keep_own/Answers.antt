@@ -1,4 +1,4 @@
-use Rattle.std.proofs.Common.{◌≡◌, ◌∙◌, sym, ap, arith}
+use Rattle.std.proofs.Common.{◌≡◌, ◌∙◌, refl, sym, ap, arith}
 use Rattle.tw_types.specs.Beliefs.{view_decision}
 use Rattle.tw_types.specs.Waiting.{putting, Filled}
 use Rattle.tw_machine.specs.Updating.{update_kept}
@@ -14,7 +14,7 @@ returns-in-Filled-clause-stands c = λ team r s.
 pub returns-in-Stored : goal.returns-in-Stored
 returns-in-Stored c = record {
   stands = λ team r s. kept_whatever team c.args.now.now c.args.self.now c.put.new.self c.args.out.now r c.args.kept.now c.put.result (putting (view_decision r.process.belief) c.args.kept.now r.process.waiting) s c.put.ensures.team (c.put.ensures.stands r.process s.process) (c.put.ensures.answer r.process s.process) c.in-Stored.is;
-  gives = record { fits = λ all. all; few = omega arith };
+  gives = record { fits = λ all. all; few = omega arith; passes = refl; earlies = refl };
   fits = c.put.ensures.fits;
   team = c.put.ensures.team;
 }

@@ -13,4 +13,6 @@ returns-then-is_repeated-clause-gives c =
     record {
       fits = λ all. c.send_to_others.ensures.fits (λ head from incarnation. rw c.copy.ensures (last_has (DecisionFits c.args.self.now.team.n) (belief_seen c.args.self.now.belief) c.in-Some.last.now c.requires.fits.view (sym c.last.ensures ∙ rw c.in-Some.is refl))) all;
       few = rw again c.send_to_others.ensures.few;
+      passes = c.send_to_others.ensures.passes;
+      earlies = c.send_to_others.ensures.earlies;
     }

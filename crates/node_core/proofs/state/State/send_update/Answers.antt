@@ -56,4 +56,6 @@ returns-clause-gives c =
           c.seq_to_send-seq.ensures c.unwrap_or.ensures c.own_update-kept.ensures.exact (sym c.refuse_send.ensures ∙ c.in_default.is)))
           (rw same (c.keep_own.ensures.gives.fits all)));
       few = omega (arith, c.keep_own.ensures.gives.few, c.send_to_others.ensures.few);
+      passes = c.send_to_others.ensures.passes ∙ c.keep_own.ensures.gives.passes;
+      earlies = c.send_to_others.ensures.earlies ∙ c.keep_own.ensures.gives.earlies;
     }

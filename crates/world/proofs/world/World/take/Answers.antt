@@ -50,6 +50,6 @@ returns-clause-taken c = λ team past stands none.
     let sent_after = next_sent team c.reserve.new.self c.keep.new.self past c.args.step.now c.act-answer.new.out.sends sent (ap (λ o. o.sends) deed.out) kept fits in
     let count : c.count.result + 1 ≡ length (world team past).sent + 1 = let many = as_many team c.reserve.new.self (world team past).sent sent in omega (arith, many, c.reserve.new.self.places.ok, c.count.ensures) in (
       next_world team past c.args.self.now _ c.args.step.now c.act-answer.new.self stands none own_after sent_after refl refl refl (rw c.from.ensures refl),
-      c.fill.ensures ∙ rw c.line.ensures (next_row team past c.args.step.now (c.args.self.now.steps + 1) (c.count.result + 1) c.act-answer.new.self.core c.act-answer.result.0 c.act-answer.result.1 c.act-answer.new.out
-          (ap (λ n. n + 1) stands.steps) count deed),
+      c.fill.ensures ∙ rw c.line.ensures (next_row team past c.args.step.now (c.args.self.now.steps + 1) (c.count.result + 1) c.act-answer.new.self.core c.act-answer.result.0 c.act-answer.result.1 c.act-answer.new.out c.shown-entries.result.now
+          (ap (λ n. n + 1) stands.steps) count deed (c.shown-entries.ensures.entries team _ deed.running)),
     )

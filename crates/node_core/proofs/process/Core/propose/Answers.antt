@@ -1,0 +1,14 @@
+use Rattle.std.proofs.Common.{subst}
+use Rattle.tw_num.specs.Clock.{IsNotBefore}
+use Rattle.tw_types.specs.Process.{Process}
+use Rattle.tw_machine.specs.Step.{step}
+use Rattle.tw_machine.specs.Event.{Send}
+use Rattle.node_core.specs.WithMachine.{WithMachine, StandsWith}
+use Rattle.node_core.proofs.Machines.{machine_follows}
+use Rattle.node_core.proofs.process.Core.propose.Goals as goal
+
+pub returns-clause-stands : goal.returns-clause-stands
+returns-clause-stands g c = subst (λ (w : WithMachine g.row.A.Denot). (p : Process) → StandsWith g.A.Machine.empty g.A.Machine.after w p → IsNotBefore c.args.h p.timing.clock
+    → StandsWith g.A.Machine.empty g.A.Machine.after (record { state = c.propose-answer.new.self; machine = c.apply_passes.new.machine }) (step w.state.team c.args.h (Send c.args.order c.args.atom c.args.payload.now) p).process) c.self.view_is (λ p s known.
+    machine_follows g.A.Machine.empty g.A.Machine.after (record { state = c.self.inside.state; machine = c.self.inside.machine }) c.self.inside.state.team c.args.h (Send c.args.order c.args.atom c.args.payload.now) p
+    c.propose-answer.new.self c.apply_passes.new.machine c.propose-answer.new.out s c.length-length.ensures.passed (c.propose-answer.ensures.stands p s.state known) (c.propose-answer.ensures.out p s.state known) (rw (← c.as_slice.ensures.items) c.apply_passes.ensures))

@@ -9,7 +9,7 @@ use Rattle.schedule_text.specs.declared.status.Status.TheVariants as status
 use Rattle.replayer.specs.Replay.{lines_of, Begins, Verdict, Whole, NoTeam, Faulty, BadLine, Endless, IsVerdict, status_of, text_before}
 use Rattle.replayer.specs.Answers.{GaveUp, RowsAreWell, IsAnswered, IsReplayed}
 use Rattle.tw_machine.specs.Rows.{rows_of}
-use Rattle.tw_machine.specs.SafeRows.{SafeSoFar}
+use Rattle.tw_machine.specs.SafeRows.{SafeRows}
 use Rattle.tw_machine.specs.ClockLaw.{ReadsWell}
 use Rattle.safety_laws.proofs.ClockLaw.{reads_well}
 use Rattle.safety_laws.proofs.Safe.{safe_rows}
@@ -21,7 +21,7 @@ use Rattle.replayer.proofs.Verdicts.{nothing_written}
 pub settled : (s t : Status) → s ≡ t → (GaveUp t → ⊥) → GaveUp s → ⊥
 settled s t e not gave = not (subst (λ (x : Status). GaveUp x) e gave)
 
-begins_well : (lines : List (List ℕ)) (team : Team) (past : List Step) (rest : List (List ℕ)) → Begins lines team past rest → SafeSoFar team (rows_of entries_of team past) × ReadsWell entries_of team past
+begins_well : (lines : List (List ℕ)) (team : Team) (past : List Step) (rest : List (List ℕ)) → Begins lines team past rest → SafeRows team (rows_of entries_of team past) × ReadsWell entries_of team past
 begins_well lines team past rest begins = (safe_rows entries_of team past (sound_of team begins.sound) begins.admissible, reads_well entries_of team past (sound_of team begins.sound) begins.admissible)
 
 -- the rows before the line that ends a text are safe, and read near team time

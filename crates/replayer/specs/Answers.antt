@@ -7,7 +7,7 @@ use Rattle.tw_types.specs.declared.step.Step.{Step}
 use Rattle.replayer.specs.Replay.{lines_of, Begins, Verdict, Whole, NoTeam, Faulty, BadLine, Endless, IsVerdict}
 use Rattle.tw_machine.specs.Rows.{rows_of}
 use Rattle.tw_machine.specs.RowText.{text_of}
-use Rattle.tw_machine.specs.SafeRows.{SafeSoFar}
+use Rattle.tw_machine.specs.SafeRows.{SafeRows}
 use Rattle.tw_machine.specs.ClockLaw.{ReadsWell}
 use Rattle.world.specs.Tables.{entries_of}
 use Rattle.replayer.specs.Cuts.{Tells}
@@ -27,14 +27,13 @@ TellsOfText (status.BadSchedule line cause) = Unit {0}
 TellsOfText status.TooLong = Unit {0}
 TellsOfText _ = ⊥
 
--- The rows of the steps before the line that ends a text are of one started group at a reading and of leased support, which is what is
--- proved so far of safe rows, and each reading in them is near the team time of its step.
+-- the rows of the steps before the line that ends a text are safe, and each reading in them is near the team time of its step
 abbrev pub RowsAreWell : Verdict → Type 0
-RowsAreWell (Whole team past) = SafeSoFar team (rows_of entries_of team past) × ReadsWell entries_of team past
+RowsAreWell (Whole team past) = SafeRows team (rows_of entries_of team past) × ReadsWell entries_of team past
 RowsAreWell NoTeam = Unit {0}
 RowsAreWell (Faulty fault) = Unit {0}
-RowsAreWell (BadLine team past cause) = SafeSoFar team (rows_of entries_of team past) × ReadsWell entries_of team past
-RowsAreWell (Endless team past) = SafeSoFar team (rows_of entries_of team past) × ReadsWell entries_of team past
+RowsAreWell (BadLine team past cause) = SafeRows team (rows_of entries_of team past) × ReadsWell entries_of team past
+RowsAreWell (Endless team past) = SafeRows team (rows_of entries_of team past) × ReadsWell entries_of team past
 
 -- The status tells what the text is, and the rows of the steps before the line that ends it were written; at Ok nothing of the text is left.
 pub record IsAnswered (all : List ℕ) (left : Option (List ℕ)) (before : List ℕ) (taken : Option (List ℕ)) (result : Status) : Type 0 where
@@ -54,13 +53,12 @@ pub record IsCutOff (all : List ℕ) (before : List ℕ) (taken : Option (List �
   pub well : (v : Verdict) → IsVerdict (lines_of all) v → RowsAreWell v
 
 -- The bytes are the lines of a sound team and of an admissible schedule; all of them were read, and the text of the schedule's rows
--- was written. The rows are of one started group at a reading and of leased support, and each reading in them is near the team time of
--- its step.
+-- was written. The rows are safe, and each reading in them is near the team time of its step.
 pub record IsReplayed (all : List ℕ) (left : Option (List ℕ)) (before : List ℕ) (taken : Option (List ℕ)) : Type 0 where
   pub team : Team
   pub past : List Step
   pub schedule : Begins (lines_of all) team past []
   pub ended : left ≡ Some []
   pub written : taken ≡ Some (before ++ text_of (rows_of entries_of team past))
-  pub safe : SafeSoFar team (rows_of entries_of team past)
+  pub safe : SafeRows team (rows_of entries_of team past)
   pub near : ReadsWell entries_of team past

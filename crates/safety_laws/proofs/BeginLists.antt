@@ -144,7 +144,7 @@ reaches_window o r consistent = go (nat_le (or_none o).low r.length) refl consis
     go false is e = absurd (cc)
 
 -- an informed one of a lower group has a seat in the decision that it goes with
-seated_below : (o : Option Decision) (r : Report) → is_by_informed r ≡ true → is_consistent o r ≡ true → r.group < (or_none o).group → has_seat r.member (or_none o) ≡ true
+pub seated_below : (o : Option Decision) (r : Report) → is_by_informed r ≡ true → is_consistent o r ≡ true → r.group < (or_none o).group → has_seat r.member (or_none o) ≡ true
 seated_below o r informed consistent low =
     let goes : ((nat_le (or_none o).low r.length && nat_le r.length (decision_length (or_none o))) && goes_with kinds.Informed r (or_none o)) ≡ true =
     subst (λ kind. ((nat_le (or_none o).low r.length && nat_le r.length (decision_length (or_none o))) && goes_with kind r (or_none o)) ≡ true) (informed_kind r informed) consistent in

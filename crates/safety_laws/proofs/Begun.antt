@@ -76,7 +76,7 @@ by_member team steps w who p known mine z i member =
     sym (of_each (λ (v : Promised). IsNamed steps (promise_name v)) w.promises z known.promises.names.promises i).member ∙ ap (λ (m : Member). m.who) member ∙ mine.promiser.own.is
 
 -- No group that names a process is above what it promised, if it promised in this life.
-no_group_above : (team : Team) (steps : List Step) (w : Written) (who : ℕ) (p : Process) → OfGroups team steps w → OfMember team steps w who p → 0 < p.vote.promised
+pub no_group_above : (team : Team) (steps : List Step) (w : Written) (who : ℕ) (p : Process) → OfGroups team steps w → OfMember team steps w who p → 0 < p.vote.promised
     → (c : items.Make) → In c w.makes → has_seat (member_of p.identity) c.making.decision ≡ true → c.making.decision.group ≤ p.vote.promised
 no_group_above team steps w who p known mine some c i seat =
     let s = any_in (is_seat_of (member_of p.identity)) c.making.decision.seats.items seat in

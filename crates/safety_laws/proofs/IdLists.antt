@@ -1,10 +1,9 @@
 -- Lists of updates and entries of which each keeps what its send gave.
-use Rattle.std.proofs.Common.{◌≡◌, ◌≢◌, refl, sym, ap, subst, ◌∙◌, inl, inr, ℕ, Bool, true, false, not, cond, List, [], ◌∷◌, map, drop, filter, filter_map, find, Option, Some, None, arith}
+use Rattle.std.proofs.Common.{◌≡◌, ◌≢◌, refl, sym, ap, subst, ◌∙◌, inl, inr, ℕ, Bool, true, false, List, [], ◌∷◌, map, drop, filter_map, find, Option, Some, None, arith}
 use Rattle.std.specs.Prelude.{◌==◌, ◌&&◌}
-use Rattle.std.specs.List.{AllByRecursion, cons_option}
-use Rattle.std.specs.Option.{option_map, option_map_or}
+use Rattle.std.specs.List.{AllByRecursion}
+use Rattle.std.specs.Option.{option_map_or}
 use Rattle.std.proofs.lemmas.Bool.Decides.{nat_tests}
-use Rattle.std.proofs.lemmas.Option.{same_Some}
 use Rattle.tw_types.specs.declared.datagram.Body.{Body}
 use Rattle.tw_types.specs.declared.datagram.Body.TheVariants as bodies
 use Rattle.tw_types.specs.declared.message.UpdateId.{UpdateId}
@@ -15,20 +14,20 @@ use Rattle.tw_types.specs.Decisions.{or_none}
 use Rattle.tw_types.specs.Logs.{needed, entry_joined}
 use Rattle.tw_types.specs.Process.{Process}
 use Rattle.tw_types.specs.Sends.{as_sent}
-use Rattle.tw_types.specs.Updates.{is_same_id, is_named, find_update, with_pending, waits_before}
-use Rattle.tw_types.specs.Waiting.{Held, Waiting, held_payloads, payloads_of, payloads_for, each_once, with_payload, released, settled_by}
+use Rattle.tw_types.specs.Updates.{is_same_id}
+use Rattle.tw_types.specs.Waiting.{payloads_of}
 use Rattle.tw_types.proofs.Appended.{IsAddedFrom}
-use Rattle.tw_types.proofs.Lists.{all_parted}
-use Rattle.tw_machine.specs.Entering.{is_overtaken, let_go_below, entered}
+use Rattle.tw_machine.specs.Entering.{entered}
 use Rattle.tw_machine.specs.History.{SentUpdate, Make, list_of}
-use Rattle.tw_machine.proofs.Tables.{all_joined, all_mapped, all_push}
+use Rattle.tw_machine.proofs.Tables.{all_joined, all_mapped}
 use Rattle.safety_laws.specs.Effects.{WasSent}
 use Rattle.safety_laws.specs.Ids.{IsOfSend, EntryIsOfSend, MakeKeeps, ProcessKeeps, BodyKeeps}
 use Rattle.tw_types.specs.Items.{In}
 use Rattle.safety_laws.specs.Made.{WasMade, WasMadeIfAny}
 use Rattle.safety_laws.specs.Sends.{id_of, AllSentOnce}
-use Rattle.safety_laws.proofs.Lists.{of_each, each_weaker, each_from, in_drop, in_filtered, found_in}
+use Rattle.safety_laws.proofs.Lists.{of_each, each_weaker, each_from, in_drop, found_in}
 use Rattle.safety_laws.proofs.MadeLists.{More}
+use Rattle.safety_laws.proofs.WaitingItems.{all_entered, all_settled}
 
 -- ---- where more was sent, all is kept
 
@@ -93,88 +92,15 @@ joined_keeps sends e k once of_entry of_kept same =
     let entry : record (k.entry) { late = false } ≡ record e { late = false } = sym (ap (λ (u : Kept). u.entry) of_kept.2) ∙ ap (λ (v : SentUpdate). v.sending.update.entry) one ∙ of_entry.2 in
     (o, of_kept.1, of_kept.2 ∙ ap (λ (f : Entry). record k { entry = f; early = false }) entry)
 
--- ---- updates that are found
-
--- what holds of whatever is found for an item holds of all that is found
-all_found : {X Y : Type 0} (P : Y → Type 0) (f : X → Option Y) (xs : List X) → ((x : X) (y : Y) → In x xs → f x ≡ Some y → P y) → AllByRecursion P (filter_map f xs)
-all_found P f [] each = tt
-all_found {X} {Y} P f (x ∷ xs) each = go (f x) refl (all_found P f xs (λ z y i. each z y (inr i)))
-  where
-    go : (o : Option Y) → f x ≡ o → AllByRecursion P (filter_map f xs) → AllByRecursion P (cons_option o (filter_map f xs))
-    go None is rest = rest
-    go (Some y) is rest = (each x y (inl refl) is, rest)
-
--- an entry gets the payload of its own send
-entry_keeps : (sends : List SentUpdate) (payloads : List Kept) (e : Entry) (u : Kept) → AllSentOnce sends → AllByRecursion (IsOfSend sends) payloads
-    → EntryIsOfSend sends e → entry_joined payloads e ≡ Some u → IsOfSend sends u
-entry_keeps sends payloads e u once all of_entry joined = go (find_update e.id payloads) refl joined
-  where
-    go : (o : Option Kept) → find_update e.id payloads ≡ o → option_map (λ (k : Kept). record k { entry = e }) o ≡ Some u → IsOfSend sends u
-    go None is f = absurd (cc)
-    go (Some k) is f =
-        let found = found_in (is_named e.id) payloads k is in
-        subst (IsOfSend sends) (same_Some (record k { entry = e }) u f)
-        (joined_keeps sends e k once of_entry (of_each (IsOfSend sends) payloads k all found.0) (same_id_of k.entry.id e.id found.1))
-
--- what a held decision keeps is of what was there
-pub payloads_keep : (sends : List SentUpdate) (ids : List UpdateId) (payloads : List Kept) → AllByRecursion (IsOfSend sends) payloads → AllByRecursion (IsOfSend sends) (payloads_for ids payloads)
-payloads_keep sends ids payloads all = all_found (IsOfSend sends) (λ (id : UpdateId). find_update id payloads) (each_once ids)
-    (λ id u i is. of_each (IsOfSend sends) payloads u all (found_in (is_named id) payloads u is).0)
-
--- ---- what waits
-
--- some of them
-filtered_keep : (sends : List SentUpdate) (test : Kept → Bool) (updates : List Kept) → AllByRecursion (IsOfSend sends) updates → AllByRecursion (IsOfSend sends) (filter test updates)
-filtered_keep sends test updates all = each_from (IsOfSend sends) (filter test updates) (λ u i. of_each (IsOfSend sends) updates u all (in_filtered test updates u i))
-
--- one more that is pending
-pub put_keeps : (sends : List SentUpdate) (k : Kept) (w : Waiting) → IsOfSend sends k → AllByRecursion (IsOfSend sends) (payloads_of w)
-    → AllByRecursion (IsOfSend sends) (payloads_of (record w { pending = with_pending k w.pending }))
-put_keeps sends k w new all =
-    let parts = all_parted (IsOfSend sends) w.pending (held_payloads w.held) all in
-    all_joined (IsOfSend sends) (with_pending k w.pending) (held_payloads w.held)
-    (all_joined (IsOfSend sends) (filter (λ (other : Kept). waits_before other k) w.pending) (k ∷ filter (λ (other : Kept). not (waits_before other k)) w.pending)
-    (filtered_keep sends (λ (other : Kept). waits_before other k) w.pending parts.0)
-    (new, filtered_keep sends (λ (other : Kept). not (waits_before other k)) w.pending parts.0))
-    parts.1
-
--- one more that is kept with the held decision
-pub filled_keeps : (sends : List SentUpdate) (k : Kept) (w : Waiting) → IsOfSend sends k → AllByRecursion (IsOfSend sends) (payloads_of w)
-    → AllByRecursion (IsOfSend sends) (payloads_of (record w { held = option_map (with_payload k) w.held }))
-filled_keeps sends k w new all =
-    let parts = all_parted (IsOfSend sends) w.pending (held_payloads w.held) all in
-    all_joined (IsOfSend sends) w.pending (held_payloads (option_map (with_payload k) w.held)) parts.0 (go w.held parts.1)
-  where
-    go : (o : Option Held) → AllByRecursion (IsOfSend sends) (held_payloads o) → AllByRecursion (IsOfSend sends) (held_payloads (option_map (with_payload k) o))
-    go None rest = tt
-    go (Some h) rest = all_push (IsOfSend sends) h.payloads k rest new
-
--- nothing is held any more
-pub released_keeps : (sends : List SentUpdate) (w : Waiting) → AllByRecursion (IsOfSend sends) (payloads_of w) → AllByRecursion (IsOfSend sends) (payloads_of (released w))
-released_keeps sends w all = all_joined (IsOfSend sends) w.pending [] (all_parted (IsOfSend sends) w.pending (held_payloads w.held) all).0 tt
-
 -- ---- a decision is entered
 
--- what it lets go, and what doesn't stay pending, is only less
-let_go_keeps : (sends : List SentUpdate) (d : Decision) (w : Waiting) → AllByRecursion (IsOfSend sends) (payloads_of w) → AllByRecursion (IsOfSend sends) (payloads_of (let_go_below d w))
-let_go_keeps sends d w all = go (is_overtaken d w.held)
-  where
-    go : (over : Bool) → AllByRecursion (IsOfSend sends) (payloads_of (cond over (released w) w))
-    go true = released_keeps sends w all
-    go false = all
-
-settled_keeps : (sends : List SentUpdate) (d : Decision) (w : Waiting) → AllByRecursion (IsOfSend sends) (payloads_of w) → AllByRecursion (IsOfSend sends) (payloads_of (settled_by d w))
-settled_keeps sends d w all =
-    let parts = all_parted (IsOfSend sends) w.pending (held_payloads w.held) all in
-    all_joined (IsOfSend sends) (settled_by d w).pending (held_payloads w.held) (filtered_keep sends _ w.pending parts.0) parts.1
-
--- A process that enters a decision whose window keeps what its sends gave keeps it too.
+-- A process that enters a decision whose window keeps what its sends gave keeps it too: an entry gets the payload of its own send.
 pub entered_keeps : (sends : List SentUpdate) (d : Decision) (p : Process) → AllSentOnce sends → AllByRecursion (EntryIsOfSend sends) d.window.items → ProcessKeeps sends p → ProcessKeeps sends (entered d p)
 entered_keeps sends d p once window k = record {
   list = all_joined (IsOfSend sends) p.log.entries (filter_map (entry_joined (payloads_of p.waiting)) (needed p.log d)) k.list
-      (all_found (IsOfSend sends) (entry_joined (payloads_of p.waiting)) (needed p.log d) (λ e u i joined.
-      entry_keeps sends (payloads_of p.waiting) e u once k.waiting (of_each (EntryIsOfSend sends) d.window.items e window (in_drop _ d.window.items e i)) joined));
-  waiting = let_go_keeps sends d (settled_by d p.waiting) (settled_keeps sends d p.waiting k.waiting);
+      (all_entered (IsOfSend sends) (payloads_of p.waiting) (needed p.log d) k.waiting
+      (λ e u i of_kept same. joined_keeps sends e u once (of_each (EntryIsOfSend sends) d.window.items e window (in_drop _ d.window.items e i)) of_kept (same_id_of u.entry.id e.id same)));
+  waiting = all_settled (IsOfSend sends) d p.waiting k.waiting;
 }
 
 -- ---- makes

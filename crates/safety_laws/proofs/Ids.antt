@@ -16,7 +16,7 @@ use Rattle.tw_types.specs.Process.{Process}
 use Rattle.tw_types.specs.Sends.{as_sent}
 use Rattle.tw_types.specs.Turns.{next_decision}
 use Rattle.tw_types.specs.Votes.{Making}
-use Rattle.tw_types.specs.Waiting.{held_payloads, payloads_of, payloads_for, ids_from}
+use Rattle.tw_types.specs.Waiting.{held_payloads, payloads_of}
 use Rattle.tw_types.proofs.Lists.{all_parted}
 use Rattle.tw_machine.specs.Deciding.{entries_to_add, kept_to_add, supporting}
 use Rattle.tw_machine.specs.Dispatches.{Dispatch, sent_at}
@@ -34,13 +34,14 @@ use Rattle.safety_laws.specs.Promises.{of_promises}
 use Rattle.safety_laws.specs.Sends.{IsOfSender, AllSentOnce, sends}
 use Rattle.safety_laws.proofs.Added.{entries_kept, kept_come}
 use Rattle.safety_laws.proofs.Delivers.{log_delivers, payloads_deliver}
-use Rattle.safety_laws.proofs.IdLists.{make_more, process_more, body_more, payloads_keep, put_keeps, filled_keeps, released_keeps, entered_keeps, list_keeps, window_keeps, any_window_keeps, cut_keeps, added_keep, entries_keep}
+use Rattle.safety_laws.proofs.IdLists.{make_more, process_more, body_more, entered_keeps, list_keeps, window_keeps, any_window_keeps, cut_keeps, added_keep, entries_keep}
 use Rattle.safety_laws.proofs.Lists.{of_each, each_weaker}
 use Rattle.safety_laws.proofs.Made.{source_made}
 use Rattle.safety_laws.proofs.MadeLists.{More, more_same, more_by, last_made}
 use Rattle.safety_laws.proofs.Marked.{each_alike}
 use Rattle.safety_laws.proofs.Stack.{Stepping, IsMailed, RulesOver, IsPartOf, part_holds, first_of}
 use Rattle.safety_laws.proofs.FirstDecisions.{group_is_first}
+use Rattle.safety_laws.proofs.WaitingItems.{all_put, all_filled, all_released, all_held}
 
 -- of what was sent an update is, as it was sent, one that was sent
 sent_is : (steps : List Step) (sent : List SentUpdate) (k : Kept) → AllByRecursion (IsOfSender steps) sent → WasSent sent k → IsOfSend sent k
@@ -73,20 +74,14 @@ module _ (team : Team) (past : List Step) (s : Step) (here : Here) (x y : State)
       sent_is (s ∷ past) x.written.sends u sender
       (subst (λ (d : Datagram). BodyKeeps x.written.sends d.body) got.2 (of_each (λ (d : Dispatch). BodyKeeps x.written.sends d.datagram.body) x.written.sent got.0 k.history.told got.1))
 
-  -- so what is held has the payloads of updates that were sent
-  held_keeps : (d : Decision) → AllByRecursion (IsOfSend x.written.sends) (x.process.waiting.pending ++ payloads_for (ids_from (log_length x.process.log) d) (payloads_of x.process.waiting))
-  held_keeps d = all_joined (IsOfSend x.written.sends) x.process.waiting.pending (payloads_for (ids_from (log_length x.process.log) d) (payloads_of x.process.waiting))
-      (all_parted (IsOfSend x.written.sends) x.process.waiting.pending (held_payloads x.process.waiting.held) k.own.waiting).0
-      (payloads_keep x.written.sends (ids_from (log_length x.process.log) d) (payloads_of x.process.waiting) k.own.waiting)
-
   -- what waits after an effect is of updates that were sent
   waiting_keeps : Waits here x y → AllByRecursion (IsOfSend x.written.sends) (payloads_of y.process.waiting)
   waiting_keeps (Stays is hold) = rw is k.own.waiting
-  waiting_keeps (Puts u origin put is hold) = rw is (put_keeps x.written.sends u x.process.waiting (origin_keeps u origin) k.own.waiting)
-  waiting_keeps (Fills u origin put is hold) = rw is (filled_keeps x.written.sends u x.process.waiting (origin_keeps u origin) k.own.waiting)
-  waiting_keeps (Goes is hold) = rw is (released_keeps x.written.sends x.process.waiting k.own.waiting)
-  waiting_keeps (ForTaking d from source is hold) = rw is (held_keeps d)
-  waiting_keeps (ForGroup ballot best from there told number is hold) = rw is (held_keeps best)
+  waiting_keeps (Puts u origin put is hold) = rw is (all_put (IsOfSend x.written.sends) u x.process.waiting (origin_keeps u origin) k.own.waiting)
+  waiting_keeps (Fills u origin put is hold) = rw is (all_filled (IsOfSend x.written.sends) u x.process.waiting (origin_keeps u origin) k.own.waiting)
+  waiting_keeps (Goes is hold) = rw is (all_released (IsOfSend x.written.sends) x.process.waiting k.own.waiting)
+  waiting_keeps (ForTaking d source from is hold) = rw is (all_held (IsOfSend x.written.sends) d (log_length x.process.log) source x.process.waiting k.own.waiting)
+  waiting_keeps (ForGroup ballot best source there told number is hold) = rw is (all_held (IsOfSend x.written.sends) best (log_length x.process.log) source x.process.waiting k.own.waiting)
 
   -- ---- what is told
 

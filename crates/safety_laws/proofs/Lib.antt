@@ -12,6 +12,7 @@ pub mod Effects
 pub mod Events
 pub mod Stack
 pub mod Lists
+pub mod Places
 pub mod Added
 pub mod Grown
 pub mod Held
@@ -36,12 +37,16 @@ pub mod Marked
 pub mod Made
 pub mod MadeRules
 pub mod MadeTold
+pub mod MadeLast
 pub mod SendsTold
 pub mod LinesTold
 pub mod Seen
 pub mod LinesSeen
 pub mod RowsInTurn
 pub mod RowsAscend
+pub mod TurnPlaces
+pub mod RowsTimed
+pub mod RowsOnce
 pub mod MadeLines
 pub mod Once
 pub mod Supports
@@ -56,10 +61,10 @@ pub mod OneGroupLists
 pub mod LeasedLists
 pub mod Ups
 pub mod GroupLaws
+pub mod WaitingItems
 pub mod IdLists
 pub mod Ids
 pub mod SendLaws
-pub mod Safe
 pub mod Under
 pub mod Numbers
 pub mod Supported
@@ -75,11 +80,33 @@ pub mod Beginnings
 pub mod Acknowledged
 pub mod Silent
 pub mod ListsAt
+pub mod AddedBy
+pub mod Overtaken
+pub mod LostMakes
 pub mod ListLaws
 pub mod PassedLists
 pub mod Passed
 pub mod DeliveryLaws
+pub mod HasLine
+pub mod Seated
+pub mod LostLists
+pub mod LostMarks
+pub mod LostTaken
+pub mod Lost
+pub mod Marks
+pub mod OneOfEach
+pub mod ToldOnce
+pub mod DeliveredOnce
 pub mod TablesOf
+pub mod LinesOfRows
+pub mod Positions
+pub mod PassesAgree
+pub mod StrongLast
+pub mod MadeRows
+pub mod RowsBacked
+pub mod OnceLaws
+pub mod DeliverAlike
+pub mod Safe
 mod Worked
 mod SendsWorked
 mod ListsWorked

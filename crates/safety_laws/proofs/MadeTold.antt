@@ -263,3 +263,7 @@ ended_agrees team h e p = go (has_duties e)
 pub step_agrees : (team : Team) (h : ℕ) (e : Event) (p : Process) → AgreesOnMade (moment_of team h e p).reading (step team h e p).out.made (step team h e p).makings
 unfolding step
 step_agrees team h e p = ended_agrees team h e p
+
+-- Before its duties an event makes nothing.
+pub ruled_makes_none : (team : Team) (h : ℕ) (e : Event) (p : Process) → (ruled_by team h e p).run.out.made ≡ None
+ruled_makes_none team h e p = (own_none team (moment_of team h e p) e (learnt_by team h e p).packet (read_by team h e p)).line

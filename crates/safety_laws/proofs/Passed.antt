@@ -292,14 +292,14 @@ module _ (team : Team) (past : List Step) (s : Step) (here : Here) (x y : State)
 
 -- ---- the law
 
--- no line is of a process that was just started: all that it read before is below its incarnation
-started_new : (team : Team) (past : List Step) (s : Step) (mode : Mode) → Admissible team (s ∷ past) → s.act ≡ start_by mode → (x : Line) → IsNamedLine past x → IsPassedOf (started s.who mode s.h) x
-started_new team past s mode ok act x named same =
+-- no line is of the incarnation of a process that was just started: all that it read before is below that
+pub none_of_started : (team : Team) (past : List Step) (s : Step) (mode : Mode) → Admissible team (s ∷ past) → s.act ≡ start_by mode → (x : Line) → IsNamedLine past x → x.member ≡ member_of (started s.who mode s.h).identity → ⊥
+none_of_started team past s mode ok act x named same =
     let who : x.who ≡ s.who = sym named.member ∙ ap (λ (m : Member). m.who) same in
     let above = above_read team past s mode ok act named.t named.h (subst (λ q. HasRead past q named.t named.h) who named.read) in
     let incarnation = named.incarnation in
     let is : x.member.incarnation ≡ s.h = ap (λ (m : Member). m.incarnation) same in
-    absurd (omega (arith, above, incarnation, is))
+    omega (arith, above, incarnation, is)
 
 -- its list is from its begin on
 started_base : (who h : ℕ) (mode : Mode) → (started who mode h).log.base ≡ 0
@@ -314,7 +314,7 @@ delivered_rules team = record {
   remains = λ past s w who p sound ok same before h own k. k;
   begins = λ past s w mode sound ok act more before k. record {
     base = started_base s.who s.h mode;
-    passed = each_weaker (IsNamedLine past) (IsPassedOf (started s.who mode s.h)) w.lines (started_new team past s mode ok act) k.named;
+    passed = each_weaker (IsNamedLine past) (IsPassedOf (started s.who mode s.h)) w.lines (λ x named same. absurd (none_of_started team past s mode ok act x named same)) k.named;
   };
   changes = λ past s here x y at mailed change before after k. changed team past s here x y at change before k change;
 }

@@ -53,19 +53,19 @@ with_mark (x ∷ xs) zero u is = (x, refl, cc)
 with_mark (x ∷ xs) (suc i) u is = with_mark xs i u is
 
 -- it stands in the list
-get_in : (xs : List Kept) (i : ℕ) (k : Kept) → slice_get xs i ≡ Some k → In k xs
+pub get_in : (xs : List Kept) (i : ℕ) (k : Kept) → slice_get xs i ≡ Some k → In k xs
 get_in [] i k is = absurd (cc)
 get_in (x ∷ xs) zero k is = let same : x ≡ k = cc in inl (sym same)
 get_in (x ∷ xs) (suc i) k is = inr (get_in xs i k is)
 
 -- and in a longer one
-get_more : (xs ys : List Kept) (i : ℕ) (k : Kept) → slice_get xs i ≡ Some k → slice_get (xs ++ ys) i ≡ Some k
+pub get_more : (xs ys : List Kept) (i : ℕ) (k : Kept) → slice_get xs i ≡ Some k → slice_get (xs ++ ys) i ≡ Some k
 get_more [] ys i k is = absurd (cc)
 get_more (x ∷ xs) ys zero k is = is
 get_more (x ∷ xs) ys (suc i) k is = get_more xs ys i k is
 
 -- what stands at a position of a log is of its list
-at_in : (log : Log) (i : ℕ) (k : Kept) → log_at i log ≡ Some k → In k log.entries
+pub at_in : (log : Log) (i : ℕ) (k : Kept) → log_at i log ≡ Some k → In k log.entries
 at_in log i k is = go (nat_le log.base i) is
   where
     go : (b : Bool) → cond b (slice_get log.entries (i - log.base)) None ≡ Some k → In k log.entries
@@ -136,16 +136,16 @@ same_pass i j a b e = (cc, cc)
 -- ---- passes
 
 -- what is told of so many positions from one on
-abbrev told_range : Decision → Log → (first count : ℕ) → List Delivered
+abbrev pub told_range : Decision → Log → (first count : ℕ) → List Delivered
 told_range d log first count = map (λ (p : Pass). delivered_at d (AtPass p.position p.how) p.kept) (filter_map (λ (i : ℕ). option_map (pass_of i) (log_at i log)) (range_with_len first count))
 
 -- it begins with the update at the first one
-told_cons : (d : Decision) (log : Log) (first count : ℕ) (k : Kept) → log_at first log ≡ Some k → told_range d log first (suc count) ≡ delivered_at d (AtPass first (how_passed k)) k ∷ told_range d log (first + 1) count
+pub told_cons : (d : Decision) (log : Log) (first count : ℕ) (k : Kept) → log_at first log ≡ Some k → told_range d log first (suc count) ≡ delivered_at d (AtPass first (how_passed k)) k ∷ told_range d log (first + 1) count
 told_cons d log first count k is =
     ap (λ o. map (λ (p : Pass). delivered_at d (AtPass p.position p.how) p.kept) (cons_option (option_map (pass_of first) o) (filter_map (λ (i : ℕ). option_map (pass_of i) (log_at i log)) (range_with_len (first + 1) count)))) is
 
 -- a position that may pass has an update
-there_of_may : (team : Team) (d : Decision) (log : Log) (i : ℕ) → may_pass team d log i ≡ true → (k : Kept) × (log_at i log ≡ Some k) × (passes_at team d i k ≡ true)
+pub there_of_may : (team : Team) (d : Decision) (log : Log) (i : ℕ) → may_pass team d log i ≡ true → (k : Kept) × (log_at i log ≡ Some k) × (passes_at team d i k ≡ true)
 there_of_may team d log i may = go (log_at i log) refl may
   where
     go : (o : Option Kept) → log_at i log ≡ o → option_map_or (passes_at team d i) o false ≡ true → (k : Kept) × (log_at i log ≡ Some k) × (passes_at team d i k ≡ true)
@@ -255,7 +255,7 @@ waits_told team d log end pending (k ∷ xs) within = go (may_be_early k) refl (
 -- ---- all of it
 
 -- the passes are of the neighbours from the cursor on
-passes_range : (team : Team) (d : Decision) (log : Log) → map (λ (p : Pass). delivered_at d (AtPass p.position p.how) p.kept) (passes team d log) ≡ told_range d log log.passed (length (run team d log))
+pub passes_range : (team : Team) (d : Decision) (log : Log) → map (λ (p : Pass). delivered_at d (AtPass p.position p.how) p.kept) (passes team d log) ≡ told_range d log log.passed (length (run team d log))
 unfolding passes
 passes_range team d log = ap (λ r. map (λ (p : Pass). delivered_at d (AtPass p.position p.how) p.kept) (filter_map (λ (i : ℕ). option_map (pass_of i) (log_at i log)) r)) (run_shape team d log).neighbours
 

@@ -166,7 +166,7 @@ more_pending p q u belief same put k =
     }
 
 -- whether or not a held decision is let go, the same is pending
-pending_after : (d : Decision) (w : Waiting) → (let_go_below d (settled_by d w)).pending ≡ settled d w.pending
+pub pending_after : (d : Decision) (w : Waiting) → (let_go_below d (settled_by d w)).pending ≡ settled d w.pending
 pending_after d w = go (is_overtaken d w.held)
   where
     go : (b : Bool) → (cond b (record (settled_by d w) { held = None }) (settled_by d w)).pending ≡ settled d w.pending

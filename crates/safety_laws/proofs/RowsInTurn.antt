@@ -43,7 +43,7 @@ turn_mapped R f (x ∷ xs) turn = (all_mapped (R (f x)) f xs turn.0, turn_mapped
 
 -- ---- parts of a list
 
-turn_first : {X : Type 0} (R : X → X → Type 0) (xs ys : List X) → InTurn R (xs ++ ys) → InTurn R xs
+pub turn_first : {X : Type 0} (R : X → X → Type 0) (xs ys : List X) → InTurn R (xs ++ ys) → InTurn R xs
 turn_first R [] ys turn = tt
 turn_first R (x ∷ xs) ys turn = (all_first (R x) xs ys turn.0, turn_first R xs ys turn.1)
   where
@@ -55,7 +55,7 @@ turn_rest : {X : Type 0} (R : X → X → Type 0) (xs ys : List X) → InTurn R 
 turn_rest R [] ys turn = turn
 turn_rest R (x ∷ xs) ys turn = turn_rest R xs ys turn.1
 
-turn_across : {X : Type 0} (R : X → X → Type 0) (xs ys : List X) (a b : X) → InTurn R (xs ++ ys) → In a xs → In b ys → R a b
+pub turn_across : {X : Type 0} (R : X → X → Type 0) (xs ys : List X) (a b : X) → InTurn R (xs ++ ys) → In a xs → In b ys → R a b
 turn_across R [] ys a b turn i j = absurd i
 turn_across R (x ∷ xs) ys a b turn (inl e) j = subst (λ y. R y b) (sym e) (of_each (R x) (xs ++ ys) b turn.0 (in_last b xs ys j))
 turn_across R (x ∷ xs) ys a b turn (inr i) j = turn_across R xs ys a b turn.1 i j

@@ -1,5 +1,5 @@
--- The rows of each schedule are safe so far: there is one started group at a reading, and its support is leased.
-use Rattle.std.proofs.Common.{◌≡◌, refl, sym, ap, subst, ◌∙◌, inl, inr, ℕ, zero, suc, ◌+◌, ◌≤◌, ◌<◌, true, List, [], ◌∷◌, ◌++◌, length, Some, slice_get, arith}
+-- The rows of each schedule are safe.
+use Rattle.std.proofs.Common.{◌≡◌, sym, ap, subst, ◌∙◌, ℕ, suc, ◌+◌, ◌≤◌, true, List, [], ◌∷◌, ◌++◌, length, Some, slice_get, arith}
 use Rattle.std.proofs.lemmas.List.{length-append}
 use Rattle.std.proofs.lemmas.Option.{same_Some}
 use Rattle.tw_types.specs.declared.team.Team.{Team}
@@ -9,9 +9,9 @@ use Rattle.tw_types.specs.declared.step.Step.{Step}
 use Rattle.tw_types.specs.Row.{Row}
 use Rattle.tw_machine.specs.Applied.{Meaning}
 use Rattle.tw_machine.specs.History.{Make, Up, history}
-use Rattle.tw_machine.specs.Places.{Each, Exists}
+use Rattle.tw_machine.specs.Places.{Exists}
 use Rattle.tw_machine.specs.Rows.{row_of, rows_of}
-use Rattle.tw_machine.specs.SafeRows.{majority, life_of, AtLeast, IsOfStarted, OneStartedGroup, HasLease, LeasedSupport, SafeSoFar}
+use Rattle.tw_machine.specs.SafeRows.{majority, life_of, AtLeast, IsOfStarted, OneStartedGroup, HasLease, LeasedSupport, SafeRows}
 use Rattle.tw_machine.specs.Started.{members_of, started_at}
 use Rattle.tw_machine.specs.World.{Admissible}
 use Rattle.safety_laws.specs.Effects.{written}
@@ -21,51 +21,20 @@ use Rattle.safety_laws.specs.Names.{IsNamedUp}
 use Rattle.safety_laws.specs.Groups.{OfGroups}
 use Rattle.safety_laws.specs.Seen.{IsFlagOf}
 use Rattle.safety_laws.specs.Ups.{WasUp}
+use Rattle.safety_laws.proofs.DeliverAlike.{deliver_alike}
 use Rattle.safety_laws.proofs.GroupLaws.{grouped_well, agreed}
 use Rattle.safety_laws.proofs.Induction.{earlier}
 use Rattle.safety_laws.proofs.LeasedLists.{HasLeased, leased}
 use Rattle.safety_laws.proofs.Lists.{of_each}
 use Rattle.safety_laws.proofs.MadeLines.{ArePrinted, are_printed, members_of_made, started_is_made}
 use Rattle.safety_laws.proofs.OneGroupLists.{IsFirstOf, none_above, own_started}
+use Rattle.safety_laws.proofs.Places.{in_exists, at_in, at_below, at_last, each_pushed, at_least_pushed}
 use Rattle.safety_laws.proofs.Quorums.{Agree}
+use Rattle.safety_laws.proofs.RowsBacked.{backed_rows}
+use Rattle.safety_laws.proofs.RowsTimed.{timed_order}
+use Rattle.safety_laws.proofs.StrongLast.{strong_last}
+use Rattle.safety_laws.proofs.TablesOf.{equal_tables}
 use Rattle.safety_laws.proofs.Seen.{flags_seen}
-
--- ---- places of lists
-
-in_exists : {X : Type 0} (xs : List X) (x : X) → In x xs → Exists xs (λ k y. y ≡ x)
-in_exists [] x i = absurd i
-in_exists (y ∷ xs) x (inl e) = (zero, y, refl, sym e)
-in_exists (y ∷ xs) x (inr i) = let k = in_exists xs x i in (suc k.0, k.1, k.2, k.3)
-
-at_in : {X : Type 0} (xs : List X) (k : ℕ) (x : X) → slice_get xs k ≡ Some x → In x xs
-at_in [] k x e = absurd (cc)
-at_in (y ∷ xs) zero x e = inl (sym (same_Some y x e))
-at_in (y ∷ xs) (suc k) x e = inr (at_in xs k x e)
-
-at_below : {X : Type 0} (xs : List X) (k : ℕ) (x : X) → slice_get xs k ≡ Some x → k < length xs
-at_below [] k x e = absurd (cc)
-at_below (y ∷ xs) zero x e = omega arith
-at_below (y ∷ xs) (suc k) x e = let low = at_below xs k x e in omega arith
-
-pushed_at : {X : Type 0} (xs : List X) (last : X) (k : ℕ) (x : X) → slice_get xs k ≡ Some x → slice_get (xs ++ last ∷ []) k ≡ Some x
-pushed_at [] last k x e = absurd (cc)
-pushed_at (y ∷ xs) last zero x e = e
-pushed_at (y ∷ xs) last (suc k) x e = pushed_at xs last k x e
-
--- what holds at each place of a list, and at the place behind it, holds at each place of the longer one
-each_pushed : {X : Type 0} (P : ℕ → X → Type 0) (xs : List X) (last : X) → Each xs P → P (length xs) last → Each (xs ++ last ∷ []) P
-each_pushed P [] last all new zero x e = subst (P zero) (same_Some last x e) new
-each_pushed P [] last all new (suc k) x e = absurd (cc)
-each_pushed P (y ∷ xs) last all new zero x e = all zero x e
-each_pushed P (y ∷ xs) last all new (suc k) x e = each_pushed (λ i. P (suc i)) xs last (λ i z f. all (suc i) z f) new k x e
-
-at_least_pushed : (count : ℕ) (rows : List Row) (last : Row) (P : ℕ → Row → Type 0) → AtLeast count rows P → AtLeast count (rows ++ last ∷ []) P
-at_least_pushed count rows last P k = record {
-  processes = k.processes;
-  enough = k.enough;
-  each_once = k.each_once;
-  each_has = λ i who e. let h = k.each_has i who e in (h.0, h.1, pushed_at rows last h.0 h.1 h.2, h.3);
-}
 
 -- ---- one started group at a reading
 
@@ -165,7 +134,7 @@ leased_support meaning team [] sound ok = λ i r e. absurd (cc)
 leased_support meaning team (s ∷ past) sound ok =
     each_pushed (λ i r. (reading : ℕ) → r.up ≡ true → r.reading ≡ Some reading → AtLeast (majority team) (rows ++ last ∷ []) (HasLease team i r.group reading)) rows last
     (λ i r at reading up is. at_least_pushed (majority team) rows last (HasLease team i r.group reading) (leased_support meaning team past sound (earlier team past s ok) i r at reading up is))
-    (λ reading up is. last_leased meaning team (s ∷ past) (length rows) last reading sound ok (last_at rows last) (let n : length (rows ++ last ∷ []) ≡ length rows + 1 = simp length-append in omega (arith, n)) up is)
+    (λ reading up is. last_leased meaning team (s ∷ past) (length rows) last reading sound ok (at_last rows last) (let n : length (rows ++ last ∷ []) ≡ length rows + 1 = simp length-append in omega (arith, n)) up is)
   where
     rows : List Row
     rows = rows_of meaning team past
@@ -173,12 +142,16 @@ leased_support meaning team (s ∷ past) sound ok =
     last : Row
     last = row_of meaning team past s
 
-    last_at : {X : Type 0} (xs : List X) (x : X) → slice_get (xs ++ x ∷ []) (length xs) ≡ Some x
-    last_at [] x = refl
-    last_at (y ∷ xs) x = last_at xs x
+-- ---- all seven
 
--- ---- both
-
--- The two clauses of safe rows that don't speak of what is delivered.
-pub safe_rows : {Content : Type 0} (meaning : Meaning Content) (team : Team) (past : List Step) → IsSound team → Admissible team past → SafeSoFar team (rows_of meaning team past)
-safe_rows meaning team past sound ok = record { one_started_group = one_started_group meaning team past sound ok; leased_support = leased_support meaning team past sound ok }
+-- In every schedule the rows are safe, with any machine, however looks show what it has.
+pub safe_rows : {Content : Type 0} (meaning : Meaning Content) (team : Team) (past : List Step) → IsSound team → Admissible team past → SafeRows team (rows_of meaning team past)
+safe_rows meaning team past sound ok = record {
+  one_started_group = one_started_group meaning team past sound ok;
+  same_deliveries = deliver_alike meaning team past sound ok;
+  strong_last = strong_last meaning team past sound ok;
+  backed = backed_rows meaning team past sound ok;
+  timed_order = timed_order meaning team past sound ok;
+  equal_tables = equal_tables meaning team past sound ok;
+  leased_support = leased_support meaning team past sound ok;
+}

@@ -55,7 +55,7 @@ counted team t None e = absurd (cc)
 counted team t (Some support) e = refl
 
 -- all that is used of the flag
-up_majority : (team : Team) (p : Process) (t : ℕ) (last : Decision) → last_decision p ≡ Some last → is_up team p.vote p.belief (Some t) ≡ true → HasMajority team last
+pub up_majority : (team : Team) (p : Process) (t : ℕ) (last : Decision) → last_decision p ≡ Some last → is_up team p.vote p.belief (Some t) ≡ true → HasMajority team last
 up_majority team p t last is up =
     let by = backing team p.vote p.belief (Some t) up in
     let same : by.last ≡ last = same_Some by.last last (sym (ap last_of by.is_last) ∙ is) in

@@ -102,7 +102,7 @@ by_more life s None makings older x i = i
 by_more life s (Some p) makings older x i = on_more (member_of p.identity) life s makings older x i
 
 -- what was made was made after a step more
-makes_more : (team : Team) (past : List Step) (s : Step) → More (history team past).makes (history team (s ∷ past)).makes
+pub makes_more : (team : Team) (past : List Step) (s : Step) → More (history team past).makes (history team (s ∷ past)).makes
 makes_more team past s = by_more (life s.who (s ∷ past)) s (deed_in team (world team past) s).process (deed_in team (world team past) s).makings (history team past).makes
 
 -- ---- no step but a look is answered as one

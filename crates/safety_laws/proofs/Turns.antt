@@ -72,7 +72,7 @@ raised_members : (entries : List Entry) (seats : List Seat) → map (λ (s : Sea
 raised_members entries [] = refl
 raised_members entries (s ∷ seats) = ap (λ ms. s.member ∷ ms) (raised_members entries seats)
 
-follower_members : (older : List Make) (m : Make) (last : Decision) → Follows older m last → members m.making.decision ≡ members last
+pub follower_members : (older : List Make) (m : Make) (last : Decision) → Follows older m last → members m.making.decision ≡ members last
 follower_members older m last k = ap (λ (seats : List Seat). map (λ (s : Seat). s.member) seats) k.seats ∙ supported_members _ _ (map (raised k.entries) last.seats.items) ∙ raised_members k.entries last.seats.items
 
 -- Each make's group was begun by an older make or by itself.

@@ -32,3 +32,7 @@ pub mod Reported
 pub mod Beginnings
 pub mod Acknowledged
 pub mod Delivered
+pub mod Overtaken
+pub mod Early
+pub mod HasLine
+pub mod Seated

@@ -18,7 +18,7 @@ ghost use Rattle.tw_types.specs.Process.{Process};
 ghost use Rattle.tw_machine.specs.Applied.{meaning_of};
 ghost use Rattle.tw_machine.specs.Dispatches.{Dispatch};
 ghost use Rattle.tw_machine.specs.Rows.{rows_of};
-ghost use Rattle.tw_machine.specs.SafeRows.{SafeSoFar};
+ghost use Rattle.tw_machine.specs.SafeRows.{SafeRows};
 ghost use Rattle.safety_laws.specs.Effects.{written};
 ghost use Rattle.safety_laws.specs.Groups.{HasMajority, StandsOn, BeginsAbove};
 ghost use Rattle.safety_laws.specs.Held.{HoldsWell, HoldsBelow};
@@ -115,9 +115,9 @@ pub fn leases_outlast_older_groups()
         BeginsAbove u.group later → u.reading < later.making.decision.start }
 {}
 
-/// The rows of each schedule are safe so far, with any machine, however looks show what it has: one started group at a reading, and
-/// leased support. Of the five clauses of safe rows on what is delivered, and on tables, nothing is said here yet.
+/// The rows of each schedule are safe, with any machine, however looks show what it has: one started group at a reading, same
+/// deliveries in one group, strong deliveries that last, backed deliveries, timed order, equal tables, and leased support.
 pub fn rows_are_safe<A: Machine>()
     ensures rows { (shown : A → List (ℕ × ℕ)) (team : Team) (past : List Step) → IsSound team → Admissible team past →
-        SafeSoFar team (rows_of (meaning_of A.empty A.after shown) team past) }
+        SafeRows team (rows_of (meaning_of A.empty A.after shown) team past) }
 {}

@@ -3,12 +3,18 @@
 #![tactic(auto)]
 
 mod clocks;
+mod deliveries;
 mod group_lists;
 mod history;
 mod laws;
 mod sends;
 
 pub use clocks::{bounds_cover_every_delay, clocks_hold_team_time};
+pub use deliveries::{
+    deliveries_are_of_made_lists, members_deliver_alike, strong_deliveries_are_backed,
+    strong_deliveries_last, tables_are_of_lists, timed_deliveries_come_in_order,
+    updates_are_delivered_once,
+};
 pub use group_lists::{
     acknowledged_entries_last, consistent_reports_begin_the_best_list, lists_are_whole,
     logs_are_the_groups_list, silent_groups_add_nothing, supports_tell_lengths,

@@ -32,8 +32,7 @@ fn names_replay(word: &str) -> bool
 /// Runs a command over a source, a sink, a clock and a link. `replay` reads a schedule and writes its rows, one for each
 /// step. A status other than `Ok` says why it stopped, and the rows of the steps before that are written.
 ///
-/// Whatever the schedule, its rows are of one started group at a reading and of leased support, and each reading is near team
-/// time. Of what is delivered, and of tables, nothing is claimed yet but that the rows are those of the definitions.
+/// Whatever the schedule, its rows are safe, and each reading is near team time.
 ///
 /// Where the source and the sink tell their bytes, the status and what is written are exactly those of the text.
 /// `ReadFault` and `WriteFault` come only where the source or the sink failed, `WantOfMemory` may come at any time.

@@ -33,7 +33,7 @@ abbrev send : Order → Atom → List ℕ → Act
 send order atom bytes = acts.Send order atom (record { items = bytes })
 
 -- the payload that gives a small key a small value
-abbrev put : (key value : ℕ) → List ℕ
+abbrev pub put : (key value : ℕ) → List ℕ
 put key value = 0 ∷ 0 ∷ 0 ∷ key ∷ 0 ∷ 0 ∷ 0 ∷ 0 ∷ 0 ∷ 0 ∷ 0 ∷ value ∷ []
 
 -- the text of the rows from the step of this number on
@@ -252,7 +252,7 @@ below_the_window_rows = refl
 -- ---- Process 0 puts its own update into 7.2, of which nothing reaches the others. They make group 8 without it, and another one has its
 -- position.
 
-abbrev lost : Atom → List Step
+abbrev pub lost : Atom → List Step
 lost atom =
     at 1112001 2 1112001 (send Total Weak (put 5 7))
     ∷ at 1112001 0 1112001 Look

@@ -31,6 +31,7 @@ mod SafeTests
 mod SafeWords
 mod SafeTables
 mod SafeLists
+mod SafeDeliveries
 mod Edges
 mod RowWords
 mod RowLines

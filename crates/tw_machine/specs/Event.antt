@@ -19,8 +19,8 @@ pub data Event : Type 0 where
   Reference : (lo hi : ℕ) → Event
   Send : (order : Order) → (atom : Atom) → (payload : List ℕ) → Event
 
--- The process after an event, its answer as a row tells it, what it gives, and what it promised, made and sent for the first time, which a
--- history collects.
+-- The process after an event, its answer as a row tells it, what it gives, and what it promised, made, sent for the first time and
+-- delivered, which a history collects.
 pub record Outcome : Type 0 where
   pub process : Process
   pub answer : RowAnswer

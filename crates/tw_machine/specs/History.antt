@@ -1,4 +1,4 @@
--- What the processes of a schedule promised, made and sent, and when they were up: lists beside the world, the newest item first.
+-- What the processes of a schedule promised, made, sent and delivered, and when they were up: lists beside the world, the newest item first.
 -- The laws on groups speak of these lists at one moment; no contract of a function that runs reads them.
 use Rattle.std.specs.Prelude.{ℕ, suc, ◌+◌, ◌==◌, Bool, true, false, ◌&&◌, if◌then◌else◌, List, [], ◌∷◌, ◌++◌, length, find, Option, Some, None}
 use Rattle.std.specs.Option.{option_map_or}

@@ -142,8 +142,3 @@ pub record SafeRows (team : Team) (rows : List Row) : Type 0 where
   pub timed_order : TimedOrder rows
   pub equal_tables : EqualTables rows
   pub leased_support : LeasedSupport team rows
-
--- The two of these that don't speak of what is delivered. They are what is proved so far of the rows of processes that deliver.
-pub record SafeSoFar (team : Team) (rows : List Row) : Type 0 where
-  pub one_started_group : OneStartedGroup team rows
-  pub leased_support : LeasedSupport team rows

@@ -95,7 +95,7 @@ answer_update now from id r = by (held_update id r.process)
     by None = dropped NotHeld r
     by (Some k) = done (sent_to now (bodies.Update (as_sent k)) from r)
 
--- The rule of a question. No table is held yet.
+-- The rule of a question. One for a table is dropped, for no process hands out a table yet.
 abbrev pub answer_ask : Moment → (from : ℕ) → Want → Run → Ruled
 answer_ask now from (wants.Update id) r = answer_update now from id r
 answer_ask now from (wants.Table group) r = dropped NotHeld r

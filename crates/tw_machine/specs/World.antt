@@ -24,7 +24,7 @@ pub record World : Type 0 where
   pub process_of : ℕ → Option Process
   pub sent : List Dispatch
 
--- What an act comes to: what then runs of the process, how the step ended, what it gave, and what it promised, made and sent.
+-- What an act comes to: what then runs of the process, how the step ended, what it gave, and what it promised, made, sent and delivered.
 pub record Deed : Type 0 where
   pub process : Option Process
   pub answer : RowAnswer

@@ -60,7 +60,7 @@ stood_on team promises makes k later j turn best e =
 -- ---- acknowledged entries last
 
 -- the list of a make is at least so long, and begins as another one's
-abbrev pub HasFirsts : ℕ → Make → Make → Type 0
+abbrev HasFirsts : ℕ → Make → Make → Type 0
 HasFirsts l m later = (l ≤ length later.log) × (take l later.log ≡ take l m.log)
 
 firsts_of : (l : ℕ) (xs ys zs : List Kept) → IsBeginning xs ys → l ≤ length xs → take l xs ≡ zs → (l ≤ length ys) × (take l ys ≡ zs)

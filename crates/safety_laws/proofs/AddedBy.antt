@@ -2,6 +2,7 @@
 use Rattle.std.proofs.Common.{◌≡◌, refl, sym, subst, ℕ, Bool, true, false, cond, ◌&&◌, ◌==◌, ◌+◌, List, [], ◌∷◌, ◌++◌, Option, Some}
 use Rattle.std.specs.Prelude.{not}
 use Rattle.std.specs.List.{AllByRecursion, list_all}
+use Rattle.std.proofs.lemmas.Bool.{and_parts}
 use Rattle.tw_types.specs.declared.team.Team.{Team}
 use Rattle.tw_types.specs.declared.message.Decision.{Decision}
 use Rattle.tw_types.specs.declared.message.Entry.{Entry}
@@ -37,16 +38,11 @@ AddsOfMembers team m = AllByRecursion (IsAddedBy team m.making.before) m.making.
 
 -- ---- who adds
 
-both : (a b : Bool) → (a && b) ≡ true → (a ≡ true) × (b ≡ true)
-both true true e = (refl, refl)
-both true false e = absurd (cc)
-both false b e = absurd (cc)
-
 -- an update of a seat's member
 candidate_seated : (d : Decision) (before : List Entry) (u : Kept) → is_candidate d before u ≡ true → has_seat (sender u.entry.id) d ≡ true
 candidate_seated d before u e =
     let r = any_in (λ (s : Seat). is_seat_of (sender u.entry.id) s && (u.entry.id.seq == s.next + count_of s.member before)) d.seats.items e in
-    let is = (both (is_seat_of (sender u.entry.id) r.0) (u.entry.id.seq == r.0.next + count_of r.0.member before) r.2).0 in
+    let is = (and_parts (is_seat_of (sender u.entry.id) r.0) (u.entry.id.seq == r.0.next + count_of r.0.member before) r.2).0 in
     has_seat_of d.seats.items (sender u.entry.id) r.0 r.1 (same_member_of r.0.member (sender u.entry.id) is)
 
 -- updates that come in turn are
@@ -54,9 +50,9 @@ turns_seated : (team : Team) (t : ℕ) (d : Decision) (pending : List Kept) (bef
     → AllByRecursion (λ (u : Kept). has_seat (sender u.entry.id) d ≡ true) (added_kept d before updates)
 turns_seated team t d pending before [] e = tt
 turns_seated team t d pending before (u ∷ updates) e =
-    let h = both (comes_next team t d pending before u) (come_in_turn team t d pending (before ++ added_entry d before u ∷ []) updates) e in
-    let c = both (may_come team t d before u) (list_all (λ (other : Kept). not (may_come team t d before other && goes_before other.entry u.entry)) pending) h.0 in
-    let can = both (is_candidate d before u) (is_ripe team t u.entry) c.0 in
+    let h = and_parts (comes_next team t d pending before u) (come_in_turn team t d pending (before ++ added_entry d before u ∷ []) updates) e in
+    let c = and_parts (may_come team t d before u) (list_all (λ (other : Kept). not (may_come team t d before other && goes_before other.entry u.entry)) pending) h.0 in
+    let can = and_parts (is_candidate d before u) (is_ripe team t u.entry) c.0 in
     (candidate_seated d before u can.0, turns_seated team t d pending (before ++ added_entry d before u ∷ []) updates h.1)
 
 -- who adds something is up

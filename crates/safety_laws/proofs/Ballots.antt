@@ -20,7 +20,7 @@ use Rattle.safety_laws.proofs.Lists.{each_weaker}
 pub not_older_self : (g t : ℕ) → IsNotOlder g t g t
 not_older_self g t = grind (arith, nat_tests)
 
-pub not_older_nothing : (g t : ℕ) → IsNotOlder g t 0 0
+not_older_nothing : (g t : ℕ) → IsNotOlder g t 0 0
 not_older_nothing g t = grind (arith, nat_tests)
 
 pub not_older_over : (g t g' t' g'' t'' : ℕ) → IsNotOlder g t g' t' → IsNotOlder g' t' g'' t'' → IsNotOlder g t g'' t''
@@ -40,7 +40,7 @@ not_older_by_group g t g' t' low = grind (arith, nat_tests)
 
 -- ---- the greater of two decisions
 
-abbrev pub IsAbove : Option Decision → ℕ → ℕ → Type 0
+abbrev IsAbove : Option Decision → ℕ → ℕ → Type 0
 IsAbove o group turn = IsNotOlder (or_none o).group (or_none o).turn group turn
 
 greater_first : (a b : Option Decision) (g t : ℕ) → IsAbove a g t → IsAbove (greater a b) g t
@@ -72,7 +72,7 @@ in_pushed x y [] i = absurd i
 in_pushed x y (z ∷ xs) (inl e) = inl e
 in_pushed x y (z ∷ xs) (inr i) = inr (in_pushed x y xs i)
 
-pub in_last : {X : Type 0} (y : X) (xs : List X) → In y (xs ++ y ∷ [])
+in_last : {X : Type 0} (y : X) (xs : List X) → In y (xs ++ y ∷ [])
 in_last y [] = inl refl
 in_last y (z ∷ xs) = inr (in_last y xs)
 

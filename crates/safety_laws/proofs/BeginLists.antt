@@ -8,7 +8,6 @@ use Rattle.tw_types.specs.declared.message.Kind.{Kind}
 use Rattle.tw_types.specs.declared.message.Kind.TheVariants as kinds
 use Rattle.tw_types.specs.declared.message.Member.{Member}
 use Rattle.tw_types.specs.declared.message.Report.{Report}
-use Rattle.tw_types.specs.declared.message.Seat.{Seat}
 use Rattle.tw_types.specs.Beliefs.{view_decision, log_length}
 use Rattle.tw_types.specs.Decisions.{or_none, has_seat, decision_length}
 use Rattle.tw_types.specs.Items.{In}
@@ -16,12 +15,10 @@ use Rattle.tw_types.specs.Process.{Process}
 use Rattle.tw_types.specs.Reports.{is_by_informed, is_consistent, goes_with}
 use Rattle.tw_machine.specs.History.{Promised, Make, list_of}
 use Rattle.safety_laws.specs.Beginnings.{IsBeginning, list_at, known, known_then, BegunThen}
-use Rattle.safety_laws.specs.Made.{WasMade, WasMadeIfAny, members, IsNotOlder, IsBest, TellsLast, TellsDecision}
+use Rattle.safety_laws.specs.Made.{WasMade, WasMadeIfAny, IsNotOlder, IsBest, TellsLast, TellsDecision}
 use Rattle.safety_laws.proofs.Ballots.{not_older_group, not_older_turn}
-use Rattle.safety_laws.proofs.FirstDecisions.{in_mapped}
-use Rattle.safety_laws.proofs.Groups.{seat_in}
+use Rattle.safety_laws.proofs.Groups.{seat_of_members}
 use Rattle.safety_laws.proofs.Lists.{of_each}
-use Rattle.safety_laws.proofs.NextDecisions.{has_seat_of}
 use Rattle.safety_laws.proofs.Prefixes.{nothing_begins, begins_also, take_begins_also, list_at_is, list_of_made, list_at_older, HaveLists, no_list, extend}
 use Rattle.safety_laws.proofs.Turns.{all_positive, first_of_made}
 
@@ -57,7 +54,7 @@ pair_older team promises m older k k' group turn (Nothing none) =
 pair_older team promises m older k k' group turn (Made d i g t) = list_at_older m older k'.once d i group turn g t
 
 -- the list of what may be missing is that of its pair
-pub list_by_pair : (team : Team) (promises : List Promised) (makes : List Make) → HaveLists team promises makes → (o : Option Decision) → list_of makes o ≡ list_at makes (or_none o).group (or_none o).turn
+list_by_pair : (team : Team) (promises : List Promised) (makes : List Make) → HaveLists team promises makes → (o : Option Decision) → list_of makes o ≡ list_at makes (or_none o).group (or_none o).turn
 list_by_pair team promises makes k None = sym (no_list team promises makes k 0)
 list_by_pair team promises makes k (Some d) = refl
 
@@ -65,14 +62,6 @@ list_by_pair team promises makes k (Some d) = refl
 pub known_by_pair : (team : Team) (promises : List Promised) (makes : List Make) → HaveLists team promises makes → (p : Process)
     → known makes p ≡ take (log_length p.log) (list_at makes (or_none (view_decision p.belief)).group (or_none (view_decision p.belief)).turn)
 known_by_pair team promises makes k p = ap (take (log_length p.log)) (list_by_pair team promises makes k (view_decision p.belief))
-
--- ---- members
-
--- who has a seat in a decision has one in each of the same members
-pub seat_of_members : (a b : Decision) (m : Member) → members a ≡ members b → has_seat m b ≡ true → has_seat m a ≡ true
-seat_of_members a b m same seat =
-    let s = in_mapped (λ (s : Seat). s.member) a.seats.items m (subst (In m) (sym same) (seat_in m b.seats.items seat)) in
-    has_seat_of a.seats.items m s.0 s.1 s.2
 
 -- ---- what begins a list
 
@@ -128,7 +117,7 @@ pub record IsReport (makes : List Make) (reports : List Report) (best : Option D
   pub below : (d : Decision) → best ≡ Some d → d.group < x.promise.number
 
 -- the kind of an informed report
-pub informed_kind : (r : Report) → is_by_informed r ≡ true → r.kind ≡ kinds.Informed
+informed_kind : (r : Report) → is_by_informed r ≡ true → r.kind ≡ kinds.Informed
 informed_kind r informed = go r.kind refl
   where
     go : (kind : Kind) → r.kind ≡ kind → r.kind ≡ kinds.Informed

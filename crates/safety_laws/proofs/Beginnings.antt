@@ -42,14 +42,14 @@ use Rattle.safety_laws.proofs.Ballots.{older_is_not}
 use Rattle.safety_laws.proofs.BeginLists.{same_or_below, view_pair, known_by_pair, begins_list, reaches_window}
 use Rattle.safety_laws.proofs.Begun.{before_beginnings, begun, ballot_begins, promises_part, made_part, new_make, now_known, now_own, now_lists, more_lists, first_is, best_made, group_list_is, group_seated, known_still, process_begins, begun_changes}
 use Rattle.safety_laws.proofs.Delivers.{log_delivers}
-use Rattle.safety_laws.proofs.EndLists.{AllThere, MayEnter, needed_is, entered_ends, fits_low, there_of_entries, none_missing, unmarked_list, ends_by, ends_same, added_there, kept_early, ends_delivered}
+use Rattle.safety_laws.proofs.EndLists.{AllThere, MayEnter, needed_is, entered_ends, fits_low, there_of_entries, none_missing, ends_by, ends_same, added_there, kept_early, ends_delivered}
 use Rattle.safety_laws.proofs.FirstDecisions.{IsFirstOf, were_distinct}
 use Rattle.safety_laws.proofs.Held.{may_take}
 use Rattle.safety_laws.proofs.Lists.{of_each, each_from}
 use Rattle.safety_laws.proofs.LowLists.{next_low, IsUnopposed, unopposed, IsOwnReport, own_low}
 use Rattle.safety_laws.proofs.Made.{source_made}
 use Rattle.safety_laws.proofs.MadeLists.{has_last, last_made, own_group, viewed}
-use Rattle.safety_laws.proofs.Prefixes.{HaveLists, nothing_begins, take_begins_also, list_is, list_of_made, list_older}
+use Rattle.safety_laws.proofs.Prefixes.{HaveLists, nothing_begins, take_begins_also, list_is, list_of_made, list_older, list_holds}
 use Rattle.safety_laws.proofs.Stack.{Stepping, IsMailed, RulesOver, IsPartOf, part_holds}
 use Rattle.safety_laws.proofs.Turns.{all_positive}
 
@@ -175,7 +175,7 @@ module _ (team : Team) (past : List Step) (s : Step) (here : Here) (x y : State)
 
   -- and none is marked
   new_unmarked : (c : Makes here x y) → IsUnmarked (new_make team past s here x y at mailed change before after c)
-  new_unmarked c = all_joined (λ (z : Kept). z.early ≡ false) (list_of older c.making.before) c.making.appended (unmarked_list older c.making.before k.history.unmarked) (go c.reason)
+  new_unmarked c = all_joined (λ (z : Kept). z.early ≡ false) (list_of older c.making.before) c.making.appended (list_holds (AllByRecursion (λ (z : Kept). z.early ≡ false)) tt older k.history.unmarked c.making.before) (go c.reason)
     where
       go : MakeReason here c.making c.t x y → AllByRecursion (λ (z : Kept). z.early ≡ false) c.making.appended
       go (Next last is turn same ballot) = subst (λ (m : Making). AllByRecursion (λ (z : Kept). z.early ≡ false) m.appended) (sym same) (kept_early here.team c.t last p)
@@ -332,7 +332,7 @@ module _ (team : Team) (past : List Step) (s : Step) (here : Here) (x y : State)
   }
 
   -- whatever the effect
-  pub changed : Change here x y → Holds beginnings now (world team past) s.who y
+  changed : Change here x y → Holds beginnings now (world team past) s.who y
   changed (Change.Keep c) = same_makes c.makes (ends_same older p y.process c.log c.belief k.own.1)
   changed (Change.Give c) = same_makes (ap (λ (w : Written). w.makes) c.written) (ends_same older p y.process (ap (λ (p : Process). p.log) c.process) (ap (λ (p : Process). p.belief) c.process) k.own.1)
   changed (Change.Hold c) = same_makes (ap (λ (w : Written). w.makes) c.written) (ends_same older p y.process (ap (λ (p : Process). p.log) c.process) (ap (λ (p : Process). p.belief) c.process) k.own.1)

@@ -53,7 +53,7 @@ abbrev pub before_beginnings : Team → Law
 before_beginnings team = Both (Both (Both (Both (of_groups team) sends) ids) reported) lists
 
 -- the half of it on beginnings alone
-abbrev pub Begun : Written → Type 0
+abbrev Begun : Written → Type 0
 Begun w = AllByRecursion (λ (c : items.Make). AllByRecursion (BegunThen w.makes c) w.promises) w.makes
 
 -- as a law of its own
@@ -88,7 +88,7 @@ no_group_above team steps w who p known mine some c i seat =
     omega arith
 
 -- who is in the group that it promised last isn't named by one above
-pub own_begins : (team : Team) (steps : List Step) (w : Written) (who : ℕ) (p : Process) (d : Decision) → OfGroups team steps w → OfMember team steps w who p → view_decision p.belief ≡ Some d → d.group ≡ p.vote.promised
+own_begins : (team : Team) (steps : List Step) (w : Written) (who : ℕ) (p : Process) (d : Decision) → OfGroups team steps w → OfMember team steps w who p → view_decision p.belief ≡ Some d → d.group ≡ p.vote.promised
     → AllByRecursion (BeginsGroup p w.makes) w.makes
 own_begins team steps w who p d known mine view group = each_from (BeginsGroup p w.makes) w.makes (λ c i turn seat low.
     absurd (let high = no_group_above team steps w who p known mine (omega (arith, positive, group)) c i seat in let is = ap (λ (o : Option Decision). (or_none o).group) view in omega (arith, high, is, low, group)))
@@ -162,7 +162,7 @@ module _ (team : Team) (steps : List Step) (here : Here) (x y : State) (who : �
       by_process turn seat low = subst (λ l. IsBeginning l m.log) (known_by_pair team x.written.promises x.written.makes (have_lists team steps x.written known_now lists) x.process) (begins turn seat low)
 
   -- so all promises begin all makes still
-  pub promised_begun : AllByRecursion (BeginsGroup x.process x.written.makes) x.written.makes → Begun x.written → Begun (record (x.written) { promises = new ∷ x.written.promises })
+  promised_begun : AllByRecursion (BeginsGroup x.process x.written.makes) x.written.makes → Begun x.written → Begun (record (x.written) { promises = new ∷ x.written.promises })
   promised_begun own all = each_from (λ (m : items.Make). AllByRecursion (BegunThen x.written.makes m) (new ∷ x.written.promises)) x.written.makes
       (λ m i. (new_begun m (of_each (BeginsGroup x.process x.written.makes) x.written.makes m own i), of_each (λ (m : items.Make). AllByRecursion (BegunThen x.written.makes m) x.written.promises) x.written.makes m all i))
 
@@ -180,7 +180,7 @@ module _ (team : Team) (steps : List Step) (w : Written) (known_now : OfGroups t
       (told_pair w.makes x (of_each (TellsDecision w.makes) w.promises x known_now.makes.tells i) (of_each IsInformedPromise w.promises x reports.informed i)))
 
   -- so what is known begins the older groups still
-  pub begins_still : (p : Process) → WasMadeIfAny w.makes (view_decision p.belief) → AllByRecursion (BeginsGroup p w.makes) w.makes → AllByRecursion (BeginsGroup p (m ∷ w.makes)) w.makes
+  begins_still : (p : Process) → WasMadeIfAny w.makes (view_decision p.belief) → AllByRecursion (BeginsGroup p w.makes) w.makes → AllByRecursion (BeginsGroup p (m ∷ w.makes)) w.makes
   begins_still p made all = each_weaker (BeginsGroup p w.makes) (BeginsGroup p (m ∷ w.makes)) w.makes (λ c f turn seat low. subst (λ l. IsBeginning l c.log) (sym (known_still p made)) (f turn seat low)) all
 
   -- and so with promises
@@ -233,7 +233,7 @@ made_part team = record { history = λ steps w k. k.0.0.0.0.makes; running = λ 
 module _ (team : Team) (past : List Step) (s : Step) (here : Here) (x y : State) (at : Stepping team past s here) (mailed : IsMailed here x.written) (change : Change here x y)
     (before : Holds (before_beginnings team) (s ∷ past) (world team past) s.who x) (after : Holds (before_beginnings team) (s ∷ past) (world team past) s.who y) where
   -- the schedule with this step
-  abbrev pub steps : List Step
+  abbrev steps : List Step
   steps = s ∷ past
 
   -- the new make

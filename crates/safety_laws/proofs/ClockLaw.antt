@@ -22,7 +22,7 @@ use Rattle.tw_machine.specs.ClockLaw.{IsNear, ReadsNear, ReadsWell}
 use Rattle.tw_machine.proofs.Tables.{all_push, all_mapped, same_number}
 use Rattle.safety_laws.proofs.Readings.{may_read_still}
 use Rattle.safety_laws.proofs.Sent.{all_sent}
-use Rattle.safety_laws.proofs.Induction.{earlier, follows, meets, Brings, Turn, turn, Invariant, Rules, holds}
+use Rattle.safety_laws.proofs.Induction.{earlier, follows, meets, Brings, Turn, turn, Invariant, Rules, holds, by_turn}
 use Rattle.tw_machine.proofs.Parts.{event_agrees}
 use Rattle.tw_machine.proofs.Steps.{timing_after, step_identity, step_timing, step_answer, step_sends}
 use Rattle.safety_laws.proofs.Timings.{TimingInvariant, IsTimed, WasSent, AllSent, LearntWell, clock_holds, clock_near, fresh_clock, timed_still, all_still, learnt_well, read_still, moment_well, sent_well}
@@ -117,7 +117,7 @@ pub own_after : (team : Team) (past : List Step) (s : Step) → (world team (s �
 own_after team past s = rw (same_number s.who) refl
 
 -- the row of a step reads near its team time
-pub row_near : {Content : Type 0} (meaning : Meaning Content) (team : Team) (past : List Step) (s : Step) → IsSound team → Admissible team (s ∷ past) → ReadsNear team.eps s (row_of meaning team past s)
+row_near : {Content : Type 0} (meaning : Meaning Content) (team : Team) (past : List Step) (s : Step) → IsSound team → Admissible team (s ∷ past) → ReadsNear team.eps s (row_of meaning team past s)
 row_near meaning team past s sound ok = go (deed_in team (world team past) s).process refl
   where
     go : (o : Option Process) → (deed_in team (world team past) s).process ≡ o → IfSome (columns team s.h ((world team past).process_of s.who) o).reading (λ T. IsNear team.eps s.t T)
@@ -142,13 +142,11 @@ rows_read_well meaning team [] well = tt
 rows_read_well meaning team (s ∷ past) well = rw (reverse_onto past s []) (one_more team.eps (reverse past) (rows_of meaning team past) s (row_of meaning team past s) (rows_read_well meaning team past well.0) well.1)
 
 answer_well : (team : Team) (past : List Step) (s : Step) → team.ppm ≤ 1000 → Admissible team (s ∷ past) → Invariant team (AllSent team) (IsTimed team) past → Turn team past s (deed_in team (world team past) s) → (deed_in team (world team past) s).answer ≢ RowAnswer.Dropped Reason.Disjoint
-answer_well team past s small ok before (Turn.Starts mode act comes) e = let f : RowAnswer.Start ≡ RowAnswer.Dropped Reason.Disjoint = sym (ap (λ (d : Deed). d.answer) comes) ∙ e in cc
-answer_well team past s small ok before (Turn.Stops act comes) e = let f : RowAnswer.Crash ≡ RowAnswer.Dropped Reason.Disjoint = sym (ap (λ (d : Deed). d.answer) comes) ∙ e in cc
-answer_well team past s small ok before (Turn.Looks p runs act comes) e = let f : RowAnswer.Look ≡ RowAnswer.Dropped Reason.Disjoint = sym (ap (λ (d : Deed). d.answer) comes) ∙ e in cc
-answer_well team past s small ok before (Turn.Happens event p runs brings comes) e =
+answer_well team past s small ok before t = by_turn team past s (λ (d : Deed). d.answer ≢ RowAnswer.Dropped Reason.Disjoint) (deed_in team (world team past) s) t
+    (λ answer mute. mute.1 Reason.Disjoint) (λ p answer mute. mute.1 Reason.Disjoint)
+    (λ event p runs brings e.
     let well = hears team past s event p small ok before.history brings (before.running s.who p runs) in
-    let f : (step team s.h event p).answer ≡ RowAnswer.Dropped Reason.Disjoint = sym (ap (λ (d : Deed). d.answer) comes) ∙ e in
-    event_agrees team (moment_of team s.h event p) event (learnt_by team s.h event p).packet (read_by team s.h event p) well.not_disjoint (sym (step_answer team s.h event p) ∙ f)
+    event_agrees team (moment_of team s.h event p) event (learnt_by team s.h event p).packet (read_by team s.h event p) well.not_disjoint (sym (step_answer team s.h event p) ∙ e))
 
 -- no step is answered as contradicting what its process knows
 pub none_dropped : {Content : Type 0} (meaning : Meaning Content) (team : Team) (past : List Step) → IsSound team → Admissible team past

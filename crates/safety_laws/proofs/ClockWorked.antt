@@ -2,7 +2,6 @@
 use Rattle.std.proofs.Common.{◌≡◌, refl, ℕ, List, [], ◌∷◌, map, Option, Some, None, arith}
 use Rattle.std.specs.Option.{option_map, option_and_then}
 use Rattle.tw_types.specs.declared.team.Team.{Team}
-use Rattle.tw_types.specs.declared.step.Act.{Act}
 use Rattle.tw_types.specs.declared.step.Step.{Step}
 use Rattle.tw_types.specs.declared.step.Act.TheVariants.{First, Tick, Recv, Reference, Look}
 use Rattle.tw_types.specs.declared.row.RowAnswer.{RowAnswer}
@@ -18,13 +17,11 @@ use Rattle.tw_machine.specs.Rows.{row_by}
 use Rattle.tw_machine.specs.Dispatches.{Dispatch}
 use Rattle.tw_machine.proofs.Meanings.{no_entries}
 use Rattle.safety_laws.specs.Clocks.{MayRead, EachReadsNear, rate_at}
+use Rattle.safety_laws.proofs.Worked.{at}
 use Rattle.tw_machine.specs.ClockLaw.{IsNear}
 
 abbrev team_a : Team
 team_a = record { n = 3; line = 7; ppm = 100; eps = 1000; delta = 10000; pace = 20000; decide = 10000; ring = 50000; slot = 100000; lease = 400000; quarantine = 1104114; theta = 30000 }
-
-abbrev at : ℕ → ℕ → ℕ → Act → Step
-at t who h act = record { t = t; who = who; h = h; act = act }
 
 -- a clock that is 300 behind team time and gains one tick in 10000, and two references of which the second is narrower
 abbrev drifts : List Step

@@ -36,7 +36,7 @@ parted (x ∷ xs) ys a b =
     ]
 
 -- two lists of different numbers below n, of more than n together, share one
-pub shared : (n : ℕ) (xs ys : List ℕ) → IsDistinct nat_eq xs → IsDistinct nat_eq ys → AllByRecursion (λ q. q < n) xs → AllByRecursion (λ q. q < n) ys → n < length xs + length ys → (q : ℕ) × In q xs × In q ys
+shared : (n : ℕ) (xs ys : List ℕ) → IsDistinct nat_eq xs → IsDistinct nat_eq ys → AllByRecursion (λ q. q < n) xs → AllByRecursion (λ q. q < n) ys → n < length xs + length ys → (q : ℕ) × In q xs × In q ys
 shared n xs ys a b low high many = elim (parted xs ys a b) [ inl s ↦ s | inr d ↦ absurd (full d) ]
   where
     full : IsDistinct nat_eq (xs ++ ys) → ⊥
@@ -53,7 +53,7 @@ pub record IsMajority (n : ℕ) (processes : List ℕ) : Type 0 where
   pub below : AllByRecursion (λ q. q < n) processes
   pub enough : n / 2 + 1 ≤ length processes
 
-pub shared_process : (n : ℕ) (xs ys : List ℕ) → IsMajority n xs → IsMajority n ys → (q : ℕ) × In q xs × In q ys
+shared_process : (n : ℕ) (xs ys : List ℕ) → IsMajority n xs → IsMajority n ys → (q : ℕ) × In q xs × In q ys
 shared_process n xs ys a b =
     let one = a.enough in
     let other = b.enough in
@@ -85,7 +85,7 @@ distinct_by who test (x ∷ xs) d =
     either_way (λ ys. IsDistinct nat_eq (map who ys)) (test x) (x ∷ filter test xs) (filter test xs) (λ e. (kept_by (λ q. nat_eq (who x) q ≡ false) who test xs d.0, rest)) (λ e. rest)
 
 -- they are as many as pass
-pub length_by : {X : Type 0} (who : X → ℕ) (test : X → Bool) (xs : List X) → length (processes_by who test xs) ≡ count_by test xs
+length_by : {X : Type 0} (who : X → ℕ) (test : X → Bool) (xs : List X) → length (processes_by who test xs) ≡ count_by test xs
 length_by who test xs = length-map (filter test xs) who ∙ length-filter test xs
 
 -- where they are a majority

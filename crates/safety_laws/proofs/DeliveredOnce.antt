@@ -1,6 +1,6 @@
 -- Each update is delivered once at a member, and what is passed as delivered earlier went early before.
 use Rattle.std.proofs.Common.{◌≡◌, refl, sym, ap, subst, ◌∙◌, inl, inr, ◌⊎◌, ℕ, true, false, List, [], ◌∷◌, ◌++◌, map, Option, Some, arith}
-use Rattle.std.specs.Prelude.{◌≢◌, ◌≤◌, slice_get}
+use Rattle.std.specs.Prelude.{◌≢◌, ◌≤◌}
 use Rattle.std.specs.List.{AllByRecursion}
 use Rattle.std.proofs.lemmas.Option.{same_Some}
 use Rattle.tw_types.specs.declared.team.Team.{Team}
@@ -9,7 +9,6 @@ use Rattle.tw_types.specs.declared.message.Kept.{Kept}
 use Rattle.tw_types.specs.declared.message.Member.{Member}
 use Rattle.tw_types.specs.declared.outputs.How.{How}
 use Rattle.tw_types.specs.declared.step.Step.{Step}
-use Rattle.tw_types.specs.Team.{IsSound}
 use Rattle.tw_types.specs.Beliefs.{is_informed, last_of}
 use Rattle.tw_types.specs.Decisions.{or_none, has_seat}
 use Rattle.tw_types.specs.Flag.{is_up}
@@ -19,13 +18,13 @@ use Rattle.tw_types.specs.Process.{Process}
 use Rattle.tw_types.specs.Updates.{is_unordered, sender}
 use Rattle.tw_types.specs.Waiting.{held_payloads, payloads_of}
 use Rattle.tw_machine.specs.Delivering.{all_told}
-use Rattle.tw_machine.specs.History.{Line, Make, SentUpdate, line_item, lines_on, list_of}
+use Rattle.tw_machine.specs.History.{Line, Make, SentUpdate, line_item, lines_on}
 use Rattle.tw_machine.specs.Run.{Place, AtPass, AtEarly, AtWait, Delivered}
 use Rattle.tw_machine.specs.Standing.{member_of}
 use Rattle.tw_machine.specs.World.{world}
 use Rattle.safety_laws.specs.Beginnings.{unmarked}
 use Rattle.safety_laws.specs.Delivered.{IsPassedOf, IsBacked}
-use Rattle.safety_laws.specs.Early.{is_early, WentEarly, IsTold, marks, IsMarked, IsAbsent, IsLostIn, IsLost, IsMarkedOrLost, lost, NotBoth, WentBefore, DeliveredOnce, once}
+use Rattle.safety_laws.specs.Early.{is_early, WentEarly, IsTold, marks, IsMarked, IsAbsent, IsLostIn, IsLost, IsMarkedOrLost, NotBoth, WentBefore, DeliveredOnce, once}
 use Rattle.safety_laws.specs.Effects.{Written, State, Here, Delivers, Change}
 use Rattle.safety_laws.specs.Groups.{HasMajority, OfGroups, OfMember}
 use Rattle.safety_laws.specs.Ids.{IsOfSend}
@@ -33,38 +32,30 @@ use Rattle.safety_laws.specs.Laws.{Law, Holds, Both}
 use Rattle.safety_laws.specs.Lists.{IsListOf}
 use Rattle.safety_laws.specs.Made.{WasMade, IsBeginOf, HasSeat}
 use Rattle.safety_laws.specs.Overtaken.{IsSupportedGroup, IsOvertaken}
-use Rattle.safety_laws.specs.Pending.{IsAwaited, pending}
-use Rattle.safety_laws.proofs.BeginLists.{seat_of_members}
+use Rattle.safety_laws.specs.Pending.{IsAwaited}
 use Rattle.safety_laws.proofs.DeliveryLaws.{with_delivered}
+use Rattle.safety_laws.proofs.Groups.{seat_of_members}
 use Rattle.safety_laws.proofs.IdLists.{one_send}
 use Rattle.safety_laws.proofs.Lists.{of_each, each_weaker, each_from, each_both, in_first, of_append}
+use Rattle.safety_laws.proofs.Lost.{with_lost}
 use Rattle.safety_laws.proofs.MadeLists.{viewed, last_made, has_last}
 use Rattle.safety_laws.proofs.Marks.{went_more}
 use Rattle.safety_laws.proofs.NextDecisions.{has_seat_of}
-use Rattle.safety_laws.proofs.OneOfEach.{in_at, HasPlaces, has_places}
-use Rattle.safety_laws.proofs.Passed.{whole_list}
-use Rattle.safety_laws.proofs.PassedLists.{at_base, without_mark, at_in, get_in}
-use Rattle.safety_laws.proofs.Prefixes.{list_of_made}
-use Rattle.safety_laws.proofs.Stack.{Stepping, RulesOver, first_of, history_rules}
+use Rattle.safety_laws.proofs.OneOfEach.{HasPlaces, has_places}
+use Rattle.safety_laws.proofs.Overtaken.{overtaken_at}
+use Rattle.safety_laws.proofs.Passed.{own_list}
+use Rattle.safety_laws.proofs.PassedLists.{at_base, listed_in, stands_in}
+use Rattle.safety_laws.proofs.Places.{at_in, place_of}
+use Rattle.safety_laws.proofs.Stack.{Stepping, RulesOver, history_rules, part_holds}
 use Rattle.safety_laws.proofs.Supported.{up_majority}
 use Rattle.safety_laws.proofs.ToldOnce.{Stands, IsOf, AreApart, ToldFrom, all_told_once}
 use Rattle.safety_laws.proofs.Turns.{first_of_made}
 
 -- ---- what the law rests on
 
-abbrev pub with_marks : Team → Law
-with_marks team = Both (with_delivered team) marks
-
-abbrev pub with_lost : Team → Law
-with_lost team = Both (with_marks team) (lost team)
-
+-- the laws on what is delivered and on lost marks, and that each mark has its line
 abbrev pub before_once : Team → Law
-before_once team = Both (with_lost team) pending
-
--- no decision of an overtaken group has supports of a majority
-abbrev pub OvertakenIsSilent : Type 0
-OvertakenIsSilent = (team : Team) (steps : List Step) (w : Written) → IsSound team → OfGroups team steps w → (c : Make) → In c w.makes → c.making.decision.turn ≡ 0 → IsOvertaken team w.makes c
-    → IsSupportedGroup team w.makes c.making.decision.group → ⊥
+before_once team = Both (with_lost team) marks
 
 -- ---- lines
 
@@ -81,7 +72,7 @@ once_on row member life s (z ∷ zs) older new apart all = once_on row member li
 
 -- ---- a delivery
 
-module _ (team : Team) (silent : OvertakenIsSilent) (past : List Step) (s : Step) (here : Here) (x y : State) (at : Stepping team past s here)
+module _ (team : Team) (past : List Step) (s : Step) (here : Here) (x y : State) (at : Stepping team past s here)
     (before : Holds (before_once team) (s ∷ past) (world team past) s.who x) (c : Delivers here x y) where
   -- its process
   abbrev p : Process
@@ -92,7 +83,7 @@ module _ (team : Team) (silent : OvertakenIsSilent) (past : List Step) (s : Step
 
   -- what is known of lists and lines
   known : Holds (with_delivered team) (s ∷ past) (world team past) s.who x
-  known = first_of (with_delivered team) marks (s ∷ past) (world team past) s.who x (first_of (with_marks team) (lost team) (s ∷ past) (world team past) s.who x (first_of (with_lost team) pending (s ∷ past) (world team past) s.who x before))
+  known = part_holds (with_delivered team) (before_once team) (s ∷ past) (world team past) s.who x (record { history = λ steps w k. k.0.0.0.0.0; running = λ steps w who p k. k.0.0.0.0.0 }) before
 
   -- and of groups, and of the process in them
   groups : OfGroups team (s ∷ past) x.written
@@ -110,20 +101,19 @@ module _ (team : Team) (silent : OvertakenIsSilent) (past : List Step) (s : Step
 
   -- the process's list is that decision's
   list_is : map unmarked p.log.entries ≡ was.0.log
-  list_is = whole_list x.written.makes p was.0.log known.own.1.base known.own.0.1.1 informed
-      (ap (list_of x.written.makes) (viewed p.belief c.last c.last_is) ∙ list_of_made x.written.makes groups.once c.last was)
+  list_is = own_list x.written.makes p c.last groups.once known.own.1.base known.own.0.1.1 c.last_is was
 
   -- its seats await what is pending
   awaited : AllByRecursion (IsAwaited was.0.making.decision) p.waiting.pending
-  awaited = subst (λ (d : Decision). AllByRecursion (IsAwaited d) p.waiting.pending) (ap or_none (viewed p.belief c.last c.last_is) ∙ sym was.2) before.own.1.awaited
+  awaited = subst (λ (d : Decision). AllByRecursion (IsAwaited d) p.waiting.pending) (ap or_none (viewed p.belief c.last c.last_is) ∙ sym was.2) before.own.0.0.0.1.awaited
 
   -- so each update has one place
   places : HasPlaces p.log p.waiting.pending
-  places = has_places was.0 (of_each IsListOf x.written.makes was.0 known.history.0.0.1.whole was.1) p known.own.1.base list_is awaited before.own.1.once
+  places = has_places was.0 (of_each IsListOf x.written.makes was.0 known.history.0.0.1.whole was.1) p known.own.1.base list_is awaited before.own.0.0.0.1.once
 
   -- and what is told is told once
   told : ToldFrom p.log p.waiting.pending p.log.passed (all_told here.team c.last p.log p.waiting.pending)
-  told = all_told_once here.team c.last p.log p.waiting.pending places before.own.1.once
+  told = all_told_once here.team c.last p.log p.waiting.pending places before.own.0.0.0.1.once
 
   -- it stands at a position that isn't passed yet, or waits
   abbrev IsAhead : Kept → Type 0
@@ -149,7 +139,7 @@ module _ (team : Team) (silent : OvertakenIsSilent) (past : List Step) (s : Step
 
   -- an update that stands there was sent
   of_send : (u : Kept) → IsAhead u → IsOfSend x.written.sends u
-  of_send u (inl there) = of_each (IsOfSend x.written.sends) p.log.entries u known.own.0.0.0.0.1.list (at_in p.log there.0 u there.2)
+  of_send u (inl there) = of_each (IsOfSend x.written.sends) p.log.entries u known.own.0.0.0.0.1.list (listed_in p.log there.0 u there.2)
   of_send u (inr waits) = of_each (IsOfSend x.written.sends) (payloads_of p.waiting) u known.own.0.0.0.0.1.waiting (in_first u p.waiting.pending (held_payloads p.waiting.held) waits)
 
   -- what went early is unordered
@@ -178,7 +168,7 @@ module _ (team : Team) (silent : OvertakenIsSilent) (past : List Step) (s : Step
   one_update u v stands i ids = go (of_append v p.log.entries p.waiting.pending i) stands
     where
       position : In v p.log.entries → (j : ℕ) × (log_at j p.log ≡ Some v)
-      position i = let there = in_at p.log.entries v i in (there.0, at_base p.log known.own.1.base there.0 ∙ there.1)
+      position i = let there = place_of p.log.entries v i in (there.0, at_base p.log known.own.1.base there.0 ∙ there.1)
 
       go : In v p.log.entries ⊎ In v p.waiting.pending → IsAhead u → v ≡ u
       go (inl i) (inl there) =
@@ -228,11 +218,11 @@ module _ (team : Team) (silent : OvertakenIsSilent) (past : List Step) (s : Step
 
       out : In u p.waiting.pending → (has_seat (sender u.entry.id) first.0.making.decision ≡ false) ⊎ IsOvertaken team x.written.makes first.0 → ⊥
       out waits (inl none) = let seat = has_sender waits in absurd (cc)
-      out waits (inr over) = silent team (s ∷ past) x.written at.sound groups first.0 first.1 first.2.begins.turn over supported
+      out waits (inr over) = overtaken_at team (s ∷ past) x.written groups first.0 first.2.begins.turn over supported
 
       go : IsAhead u → ⊥
       go (inl there) =
-          let listed : In (unmarked u) was.0.log = get_in was.0.log there.0 (unmarked u) (ap (λ l. slice_get l there.0) (sym list_is) ∙ without_mark p.log.entries there.0 u (sym (at_base p.log known.own.1.base there.0) ∙ there.2)) in
+          let listed : In (unmarked u) was.0.log = at_in was.0.log there.0 (unmarked u) (stands_in p.log was.0.log known.own.1.base list_is there.0 u there.2) in
           of_each (λ (v : Kept). v.entry.id ≢ u.entry.id) was.0.log (unmarked u) absent listed refl
       go (inr waits) = out waits lost_in.sender_out
 
@@ -270,8 +260,8 @@ module _ (team : Team) (silent : OvertakenIsSilent) (past : List Step) (s : Step
   went_before z of position is = subst (WentEarly x.written.lines me) (sym (ap (λ (v : Kept). v.entry.id) of.same)) (go of.stands (of.went position is))
     where
       go : IsAhead of.update → IsTold x.written.lines p of.update
-      go (inl there) = of_each (IsTold x.written.lines p) p.log.entries of.update before.own.0.0.1.list (at_in p.log there.0 of.update there.2)
-      go (inr waits) = of_each (IsTold x.written.lines p) (payloads_of p.waiting) of.update before.own.0.0.1.waiting (in_first of.update p.waiting.pending (held_payloads p.waiting.held) waits)
+      go (inl there) = of_each (IsTold x.written.lines p) p.log.entries of.update before.own.1.list (listed_in p.log there.0 of.update there.2)
+      go (inr waits) = of_each (IsTold x.written.lines p) (payloads_of p.waiting) of.update before.own.1.waiting (in_first of.update p.waiting.pending (held_payloads p.waiting.held) waits)
 
   delivers_once : DeliveredOnce x.written.lines → DeliveredOnce y.written.lines
   delivers_once all = subst (λ (w : Written). DeliveredOnce w.lines) (sym c.written)
@@ -283,17 +273,16 @@ module _ (team : Team) (silent : OvertakenIsSilent) (past : List Step) (s : Step
 -- ---- the law
 
 -- whatever the effect: only a delivery tells lines
-changed : (team : Team) → OvertakenIsSilent → (past : List Step) (s : Step) (here : Here) (x y : State) → Stepping team past s here → Change here x y → Holds (before_once team) (s ∷ past) (world team past) s.who x
+changed : (team : Team) (past : List Step) (s : Step) (here : Here) (x y : State) → Stepping team past s here → Change here x y → Holds (before_once team) (s ∷ past) (world team past) s.who x
     → DeliveredOnce x.written.lines → DeliveredOnce y.written.lines
-changed team silent past s here x y at (Change.Keep c) before all = rw c.lines all
-changed team silent past s here x y at (Change.Give c) before all = rw c.written all
-changed team silent past s here x y at (Change.Hold c) before all = rw c.written all
-changed team silent past s here x y at (Change.Take c) before all = rw c.written all
-changed team silent past s here x y at (Change.Make c) before all = rw c.written all
-changed team silent past s here x y at (Change.Raise c) before all = rw c.written all
-changed team silent past s here x y at (Change.Deliver c) before all = delivers_once team silent past s here x y at before c all
+changed team past s here x y at (Change.Keep c) before all = rw c.lines all
+changed team past s here x y at (Change.Give c) before all = rw c.written all
+changed team past s here x y at (Change.Hold c) before all = rw c.written all
+changed team past s here x y at (Change.Take c) before all = rw c.written all
+changed team past s here x y at (Change.Make c) before all = rw c.written all
+changed team past s here x y at (Change.Raise c) before all = rw c.written all
+changed team past s here x y at (Change.Deliver c) before all = delivers_once team past s here x y at before c all
 
--- Each update is delivered once at a member, where marks have their lines, lost ones are lost for good, what is pending is settled, and no
--- overtaken group has a decision with supports of a majority.
-pub once_rules : (team : Team) → OvertakenIsSilent → RulesOver team (before_once team) once
-once_rules team silent = history_rules team (before_once team) (λ (w : Written). DeliveredOnce w.lines) tt (λ past s here x y at change before after k. changed team silent past s here x y at change before k)
+-- Each update is delivered once at a member, where marks have their lines, lost ones are lost for good, and what is pending is settled.
+pub once_rules : (team : Team) → RulesOver team (before_once team) once
+once_rules team = history_rules team (before_once team) (λ (w : Written). DeliveredOnce w.lines) tt (λ past s here x y at change before after k. changed team past s here x y at change before k)

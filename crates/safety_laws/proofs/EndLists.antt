@@ -1,9 +1,9 @@
 -- What a process's list is after a decision is entered: the end of the decision's list.
 use Rattle.std.proofs.Common.{◌≡◌, refl, sym, ap, subst, ◌∙◌, ℕ, ◌+◌, ◌-◌, ◌≤◌, nat_lt, Bool, true, false, cond, not, ◌||◌, List, [], ◌∷◌, ◌++◌, map, length, take, drop, filter_map, find, Option, Some, None, arith, length-append}
 use Rattle.std.specs.List.{AllByRecursion, cons_option}
-use Rattle.std.specs.Option.{option_map, option_map_or}
-use Rattle.std.specs.Prelude.{◌==◌, ◌&&◌}
+use Rattle.std.specs.Option.{option_map}
 use Rattle.std.proofs.lemmas.Bool.Decides.{nat_tests}
+use Rattle.std.proofs.lemmas.Bool.{not-false}
 use Rattle.std.proofs.lemmas.List.{drop-map, drop-drop, drop-append-le, length-map, length-take-le, map-append}
 use Rattle.std.proofs.Math.Seq.{drop-append_seam, take-length}
 use Rattle.tw_types.specs.declared.message.Decision.{Decision}
@@ -28,14 +28,13 @@ use Rattle.tw_types.specs.Sends.{as_sent}
 use Rattle.tw_types.specs.Updates.{is_same_id, is_named, find_update, has_update}
 use Rattle.tw_types.specs.Waiting.{payloads_of}
 use Rattle.tw_machine.specs.History.{Make, SentUpdate, list_of}
-use Rattle.safety_laws.specs.Beginnings.{IsBeginning, known, unmarked, IsEndOfKnown, IsUnmarked}
+use Rattle.safety_laws.specs.Beginnings.{IsBeginning, known, unmarked, IsEndOfKnown}
 use Rattle.safety_laws.specs.Ids.{IsOfSend}
 use Rattle.safety_laws.specs.Lists.{entries_of}
 use Rattle.safety_laws.specs.Sends.{id_of, AllSentOnce}
 use Rattle.safety_laws.proofs.IdLists.{same_id_of, one_send}
-use Rattle.safety_laws.proofs.Lists.{of_each, each_from, each_weaker, in_first, in_drop, found_in}
+use Rattle.safety_laws.proofs.Lists.{of_each, each_from, each_weaker, in_first, in_drop, found_in, finds}
 use Rattle.safety_laws.proofs.NextDecisions.{any_in}
-use Rattle.safety_laws.proofs.Prefixes.{finds}
 use Rattle.safety_laws.proofs.Marked.{OnlyDelivers}
 
 -- ---- what is found
@@ -50,14 +49,14 @@ none_found {X} test (x ∷ xs) none = go (test x) refl none (none_found test xs)
     go false is none rest = (is, rest none)
 
 -- an update with this id
-pub record IsFound (id : UpdateId) (updates : List Kept) : Type 0 where
-  pub update : Kept
-  pub found : find_update id updates ≡ Some update
-  pub there : In update updates
-  pub named : update.entry.id ≡ id
+record IsFound (id : UpdateId) (updates : List Kept) : Type 0 where
+  update : Kept
+  found : find_update id updates ≡ Some update
+  there : In update updates
+  named : update.entry.id ≡ id
 
 -- it is found where it is there
-pub is_found : (id : UpdateId) (updates : List Kept) → has_update id updates ≡ true → IsFound id updates
+is_found : (id : UpdateId) (updates : List Kept) → has_update id updates ≡ true → IsFound id updates
 is_found id updates has =
     let one = any_in (is_named id) updates has in
     let f = finds (is_named id) updates one.0 one.1 one.2 in
@@ -183,14 +182,9 @@ fits_low log d none = go (nat_lt (log_length log) d.low) refl _ none
     go true is others e = absurd (cc)
     go false is others e = grind (arith, nat_tests)
 
--- what isn't missing is there
-is_there : (b : Bool) → not b ≡ false → b ≡ true
-is_there true e = refl
-is_there false e = absurd (cc)
-
 -- of updates none of whose entries lacks a payload
 pub there_of_entries : (payloads list : List Kept) → AllByRecursion (λ (e : Entry). not (has_update e.id payloads) ≡ false) (entries_of list) → AllThere payloads list
-there_of_entries payloads list all = each_weaker (λ (k : Kept). not (has_update k.entry.id payloads) ≡ false) (λ (k : Kept). has_update k.entry.id payloads ≡ true) list (λ k e. is_there (has_update k.entry.id payloads) e)
+there_of_entries payloads list all = each_weaker (λ (k : Kept). not (has_update k.entry.id payloads) ≡ false) (λ (k : Kept). has_update k.entry.id payloads ≡ true) list (λ k e. not-false (has_update k.entry.id payloads) e)
     (all_mapped_from (λ (e : Entry). not (has_update e.id payloads) ≡ false) (λ (k : Kept). k.entry) list all)
 
 -- none of its payloads is missing
@@ -205,15 +199,6 @@ none_missing log payloads d list low window none =
     go (Some e) f = absurd (cc)
 
 -- ---- marks, and more makes
-
--- the list of a decision has none
-pub unmarked_list : (makes : List Make) (o : Option Decision) → AllByRecursion IsUnmarked makes → AllByRecursion (λ (k : Kept). k.early ≡ false) (list_of makes o)
-unmarked_list makes None all = tt
-unmarked_list makes (Some d) all = go (find (λ (m : Make). (m.making.decision.group == d.group) && (m.making.decision.turn == d.turn)) makes) refl
-  where
-    go : (o : Option Make) → find (λ (m : Make). (m.making.decision.group == d.group) && (m.making.decision.turn == d.turn)) makes ≡ o → AllByRecursion (λ (k : Kept). k.early ≡ false) (option_map_or (λ (m : Make). m.log) o [])
-    go None is = tt
-    go (Some m) is = of_each IsUnmarked makes m all (found_in (λ (m : Make). (m.making.decision.group == d.group) && (m.making.decision.turn == d.turn)) makes m is).0
 
 -- a process's list is the end of what it knows by more makes too
 pub ends_by : (makes more : List Make) (p : Process) → list_of more (view_decision p.belief) ≡ list_of makes (view_decision p.belief) → IsEndOfKnown makes p → IsEndOfKnown more p

@@ -24,7 +24,7 @@ use Rattle.safety_laws.proofs.Effects.{Row, after, still, own_row, duties_row}
 use Rattle.safety_laws.proofs.Given.{same_greatest}
 
 -- the datagram that an event brings, where it isn't dropped before its kind's rule
-abbrev pub heard : Result (Option Datagram) Reason → Option Datagram
+abbrev heard : Result (Option Datagram) Reason → Option Datagram
 heard (Ok o) = o
 heard (Err reason) = None
 
@@ -89,7 +89,7 @@ at_least_greatest : (o : Option ℕ) (t : ℕ) → NotBelow o (Some (at_least o 
 at_least_greatest None t = tt
 at_least_greatest (Some g) t = omega arith
 
-pub read_grows : (ppm eps h : ℕ) (c : Clock) → NotBelow c.greatest (after_read ppm eps h c).greatest
+read_grows : (ppm eps h : ℕ) (c : Clock) → NotBelow c.greatest (after_read ppm eps h c).greatest
 read_grows ppm eps h c = go (interval_at ppm h c)
   where
     by_test : (i : Interval) (narrow : Bool) → NotBelow c.greatest (or_before (cond narrow (Some (at_least c.greatest ((i.lo + i.hi) / 2))) None) c.greatest)

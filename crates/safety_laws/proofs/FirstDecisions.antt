@@ -1,5 +1,5 @@
 -- What the first decision of a group is, by the ballot that it is made of.
-use Rattle.std.proofs.Common.{◌≡◌, ◌≢◌, refl, sym, ap, subst, ◌∙◌, inl, inr, ℕ, zero, suc, ◌+◌, ◌-◌, ◌/◌, ◌≤◌, ◌<◌, max, Bool, true, false, cond, not, ◌||◌, nat_eq, nat_lt, List, [], ◌∷◌, length, map, filter, drop, Option, Some, None, Result, Ok, Err, arith, length-drop}
+use Rattle.std.proofs.Common.{◌≡◌, ◌≢◌, refl, sym, ap, subst, ◌∙◌, inl, inr, ℕ, zero, suc, ◌+◌, ◌-◌, ◌/◌, ◌≤◌, ◌<◌, max, Bool, true, false, cond, not, ◌||◌, nat_eq, nat_lt, List, [], ◌∷◌, length, map, drop, Option, Some, None, Result, Ok, Err, arith, length-drop}
 use Rattle.std.specs.List.{AllByRecursion, IsDistinct, list_any, filter_map, range_with_len, cons_option, fold}
 use Rattle.std.specs.Option.{option_map}
 use Rattle.std.specs.Prelude.{count_by}
@@ -23,8 +23,9 @@ use Rattle.group_maker.proofs.Ascending.{report_of}
 use Rattle.group_maker.proofs.Ranges.{all_kept, all_pass, distinct_kept, find_all, found_of, all_found, seats_ascend, ascending-length, own_report}
 use Rattle.group_maker.proofs.Fitting.{IsWithin, least_within, within, low_of, all_map, owner_low}
 use Rattle.tw_types.specs.Items.{In}
+use Rattle.tw_types.proofs.Appended.{of_filter}
 use Rattle.safety_laws.specs.Made.{reporters, StartsAfter}
-use Rattle.safety_laws.proofs.Lists.{each_weaker, each_from}
+use Rattle.safety_laws.proofs.Lists.{each_weaker, each_from, found_in, of_filter_map}
 
 -- ---- different processes, said in two ways
 
@@ -45,45 +46,14 @@ were_distinct (r ∷ rs) d = (
   were_distinct rs (IsDistinct-tail nat_eq r.member.who (reporters rs) d),
 )
 
-pub ascend_distinct : (seats : List Seat) → Ascends seats → IsDistinct nat_eq (map (λ (s : Seat). s.member.who) seats)
+ascend_distinct : (seats : List Seat) → Ascends seats → IsDistinct nat_eq (map (λ (s : Seat). s.member.who) seats)
 unfolding IsDistinct
 ascend_distinct [] a = tt
 ascend_distinct (s ∷ seats) a =
     IsDistinct-cons nat_eq s.member.who (map (λ (s : Seat). s.member.who) seats) (all_map (λ y. nat_eq s.member.who y ≡ false) (λ (s : Seat). s.member.who) seats
     (each_weaker (λ (t : Seat). s.member.who < t.member.who) (λ (t : Seat). nat_eq s.member.who t.member.who ≡ false) seats (λ t low. grind (arith, nat_tests)) a.0)) (ascend_distinct seats a.1)
 
--- ---- what stands in a filtered list
-
-pub in_filtered : {X : Type 0} (t : X → Bool) (xs : List X) (x : X) → In x (filter t xs) → In x xs × (t x ≡ true)
-in_filtered t [] x i = absurd i
-in_filtered t (y ∷ xs) x i = go (t y) refl i (in_filtered t xs x)
-  where
-    go : (b : Bool) → t y ≡ b → In x (cond b (y ∷ filter t xs) (filter t xs)) → (In x (filter t xs) → In x xs × (t x ≡ true)) → In x (y ∷ xs) × (t x ≡ true)
-    go true e (inl same) rest = (inl same, subst (λ z. t z ≡ true) (sym same) e)
-    go true e (inr j) rest = let k = rest j in (inr k.0, k.1)
-    go false e j rest = let k = rest j in (inr k.0, k.1)
-
-pub in_mapped : {X Y : Type 0} (f : X → Y) (xs : List X) (y : Y) → In y (map f xs) → (x : X) × In x xs × (f x ≡ y)
-in_mapped f [] y i = absurd i
-in_mapped f (x ∷ xs) y (inl e) = (x, inl refl, sym e)
-in_mapped f (x ∷ xs) y (inr i) = let k = in_mapped f xs y i in (k.0, inr k.1, k.2)
-
-found_in : (reports : List Report) (who : ℕ) (r : Report) → report_of reports who ≡ Some r → In r reports
-found_in [] who r e = absurd (cc)
-found_in (x ∷ xs) who r e = go (nat_eq x.member.who who) e (found_in xs who r)
-  where
-    go : (b : Bool) → cond b (Some x) (report_of xs who) ≡ Some r → (report_of xs who ≡ Some r → In r xs) → In r (x ∷ xs)
-    go true e rest = inl (cc)
-    go false e rest = inr (rest e)
-
-found_over : (h : ℕ → Option Report) (ks : List ℕ) (r : Report) → In r (filter_map h ks) → (k : ℕ) × (h k ≡ Some r)
-found_over h [] r i = absurd i
-found_over h (k ∷ ks) r i = go (h k) refl i (found_over h ks r)
-  where
-    go : (o : Option Report) → h k ≡ o → In r (cons_option o (filter_map h ks)) → (In r (filter_map h ks) → (k : ℕ) × (h k ≡ Some r)) → (k : ℕ) × (h k ≡ Some r)
-    go None e j rest = rest j
-    go (Some x) e (inl same) rest = (k, e ∙ ap Some (sym same))
-    go (Some x) e (inr j) rest = rest j
+-- ---- what is found of a range
 
 -- who has a report among those of the range stands there
 pub over_found : (h : ℕ → Option Report) (r : Report) (who : ℕ) → h who ≡ Some r → (a k : ℕ) → a ≤ who → who < a + k → In r (filter_map h (range_with_len a k))
@@ -185,11 +155,12 @@ unopposed team b log payloads me none =
     parts true true few e = absurd (cc)
     parts false shorter few e = absurd (cc)
 
+-- a member is its process and its incarnation
+pub one_member : (a b : Member) → a.who ≡ b.who → a.incarnation ≡ b.incarnation → a ≡ b
+one_member a b who incarnation = ap (λ (w : ℕ). record { who = w; incarnation = a.incarnation }) who ∙ ap (λ (i : ℕ). record { who = b.who; incarnation = i }) incarnation
+
 pub same_member_of : (a b : Member) → is_same_member a b ≡ true → a ≡ b
-same_member_of a b e = record_same (grind (arith, nat_tests)) (grind (arith, nat_tests))
-  where
-    record_same : a.who ≡ b.who → a.incarnation ≡ b.incarnation → a ≡ b
-    record_same p q = ap (λ (w : ℕ). record { who = w; incarnation = a.incarnation }) p ∙ ap (λ (i : ℕ). record { who = b.who; incarnation = i }) q
+same_member_of a b e = one_member a b (grind (arith, nat_tests)) (grind (arith, nat_tests))
 
 pub same_member : (m : Member) → is_same_member m m ≡ true
 same_member m = grind (arith, nat_tests)
@@ -235,7 +206,7 @@ first_is team b me t below distinct free = record {
     seat_count = simp length-map
 
     seated_in : (r : Report) → In r (ascending team.n cs) → In r b.reports.items × (is_consistent b.best r ≡ true)
-    seated_in r i = let k = found_over h (range_with_len 0 team.n) r i in in_filtered (is_consistent b.best) b.reports.items r (found_in cs k.0 r k.1)
+    seated_in r i = let k = of_filter_map h (range_with_len 0 team.n) r i in of_filter (is_consistent b.best) b.reports.items r (found_in (λ (q : Report). nat_eq q.member.who k.0) cs r k.2).0
 
     own : (r : Report) × (report_of cs me.who ≡ Some r) × (is_same_member r.member me ≡ true)
     own = own_report me cs apart free.there

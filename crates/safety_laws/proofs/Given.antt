@@ -57,12 +57,6 @@ pub same_greatest : (o : Option ℕ) → NotBelow o o
 same_greatest None = tt
 same_greatest (Some g) = omega arith
 
-pub greatest_grows : (a b c : Option ℕ) → NotBelow a b → NotBelow b c → NotBelow a c
-greatest_grows None b c low high = tt
-greatest_grows (Some x) None c low high = absurd low
-greatest_grows (Some x) (Some y) None low high = absurd high
-greatest_grows (Some x) (Some y) (Some z) low high = omega arith
-
 -- tests that all pass
 pub none_present : (rs : List Refusal) → first_refusal rs ≡ None → AllByRecursion (λ (r : Refusal). r.present ≡ false) rs
 none_present [] none = tt
@@ -72,7 +66,7 @@ none_present (r ∷ rs) none = go r.present refl none (none_present rs)
     go true e f rest = absurd (cc)
     go false e f rest = (e, rest f)
 
-pub none_refused : (rs : List SendRefusal) → first_send_refusal rs ≡ None → AllByRecursion (λ (r : SendRefusal). r.present ≡ false) rs
+none_refused : (rs : List SendRefusal) → first_send_refusal rs ≡ None → AllByRecursion (λ (r : SendRefusal). r.present ≡ false) rs
 none_refused [] none = tt
 none_refused (r ∷ rs) none = go r.present refl none (none_refused rs)
   where
@@ -80,7 +74,7 @@ none_refused (r ∷ rs) none = go r.present refl none (none_refused rs)
     go true e f rest = absurd (cc)
     go false e f rest = (e, rest f)
 
-pub both_true : (a b : Bool) → (not a || not b) ≡ false → (a ≡ true) × (b ≡ true)
+both_true : (a b : Bool) → (not a || not b) ≡ false → (a ≡ true) × (b ≡ true)
 both_true true true e = (refl, refl)
 both_true true false e = absurd (cc)
 both_true false b e = absurd (cc)
@@ -97,7 +91,7 @@ timely_at (Timely bound) None t e = absurd (cc)
 timely_at (Timely bound) (Some u) t e = cc
 
 -- an update that was sent stays among those that were
-pub still_sent : (here : Here) (x y : State) (k : Kept) → Change here x y → WasSent x.written.sends k → WasSent y.written.sends k
+still_sent : (here : Here) (x y : State) (k : Kept) → Change here x y → WasSent x.written.sends k → WasSent y.written.sends k
 still_sent here x y k (Change.Keep c) sent = go c.numbers
   where
     go : Numbers here x y → WasSent y.written.sends k

@@ -8,16 +8,19 @@ use Rattle.tw_types.specs.declared.message.Decision.{Decision}
 use Rattle.tw_types.specs.declared.message.Member.{Member}
 use Rattle.tw_types.specs.declared.message.Report.{Report}
 use Rattle.tw_types.specs.declared.message.Seat.{Seat}
-use Rattle.tw_types.specs.Decisions.{is_seat_of}
+use Rattle.tw_types.specs.Decisions.{is_seat_of, has_seat}
 use Rattle.tw_types.specs.Reports.{is_consistent}
 use Rattle.tw_machine.specs.History.{Promised, Make}
 use Rattle.tw_machine.proofs.Tables.{all_mapped}
 use Rattle.tw_types.specs.Items.{In}
-use Rattle.safety_laws.specs.Made.{members, ComesFrom, Arises, AsFirst, AsNext, AllArise}
+use Rattle.tw_types.proofs.Appended.{of_map}
+use Rattle.safety_laws.specs.Made.{members, ComesFrom, Arises, AsFirst, AsNext, AllArise, WasMade}
+use Rattle.safety_laws.specs.Once.{AllOnce}
 use Rattle.safety_laws.proofs.Counting.{IsMajority}
 use Rattle.safety_laws.proofs.FirstDecisions.{same_member_of}
 use Rattle.safety_laws.proofs.Lists.{of_each, each_weaker}
-use Rattle.safety_laws.proofs.Turns.{first_of_make, arises_of}
+use Rattle.safety_laws.proofs.NextDecisions.{has_seat_of}
+use Rattle.safety_laws.proofs.Turns.{first_of_make, arises_of, once_same, first_of_made}
 
 -- ---- the first make of a group
 
@@ -92,3 +95,22 @@ pub seat_in : (member : Member) (seats : List Seat) → list_any (is_seat_of mem
 seat_in member [] e = absurd (cc)
 seat_in member (s ∷ seats) e =
     elim (or_cases (is_seat_of member s) (list_any (is_seat_of member) seats) e) [ inl t ↦ inl (sym (same_member_of s.member member t)) | inr t ↦ inr (seat_in member seats t) ]
+
+-- who has a seat in a decision has one in each of the same members
+pub seat_of_members : (a b : Decision) (m : Member) → members a ≡ members b → has_seat m b ≡ true → has_seat m a ≡ true
+seat_of_members a b m same seat =
+    let s = of_map (λ (s : Seat). s.member) a.seats.items m (subst (In m) (sym same) (seat_in m b.seats.items seat)) in
+    has_seat_of a.seats.items m s.0 s.1 (sym s.2)
+
+module _ (team : Team) (promises : List Promised) (makes : List Make) (arise : AllArise team promises makes) (once : AllOnce makes) where
+  -- decisions of one group have one list of members,
+  group_members : (a b : Decision) → WasMade makes a → WasMade makes b → a.group ≡ b.group → members a ≡ members b
+  group_members a b i j same =
+      let f = first_of_made team promises makes arise a i in
+      let g = first_of_made team promises makes arise b j in
+      let one : f.0 ≡ g.0 = once_same makes once f.0 g.0 f.1 g.1 (f.2.begins.group_is ∙ same ∙ sym g.2.begins.group_is, f.2.begins.turn ∙ sym g.2.begins.turn) in
+      sym f.2.same_members ∙ ap (λ (z : Make). members z.making.decision) one ∙ g.2.same_members
+
+  -- so who has a seat in one has one in each
+  pub seat_in_each : (a b : Decision) → WasMade makes a → WasMade makes b → a.group ≡ b.group → (member : Member) → has_seat member a ≡ true → has_seat member b ≡ true
+  seat_in_each a b i j same member seat = seat_of_members b a member (group_members b a j i (sym same)) seat

@@ -1,9 +1,8 @@
 -- Who delivered took a decision before.
-use Rattle.std.proofs.Common.{◌≡◌, ◌≢◌, sym, ap, subst, ◌∙◌, ℕ, ◌≤◌, List, ◌∷◌, Option, Some}
+use Rattle.std.proofs.Common.{◌≡◌, sym, ap, subst, ◌∙◌, ℕ, ◌≤◌, List, ◌∷◌, Option, Some}
 use Rattle.std.specs.List.{AllByRecursion}
 use Rattle.tw_types.specs.declared.team.Team.{Team}
 use Rattle.tw_types.specs.declared.message.Decision.{Decision}
-use Rattle.tw_types.specs.declared.message.Member.{Member}
 use Rattle.tw_types.specs.declared.step.Step.{Step}
 use Rattle.tw_types.specs.Beliefs.{last_of}
 use Rattle.tw_types.specs.Decisions.{or_none}
@@ -15,18 +14,19 @@ use Rattle.tw_machine.specs.Run.{Delivered}
 use Rattle.tw_machine.specs.Standing.{member_of}
 use Rattle.tw_machine.specs.World.{world}
 use Rattle.tw_machine.proofs.Tables.{all_of}
-use Rattle.safety_laws.specs.Delivered.{IsNamedLine}
+use Rattle.safety_laws.specs.Delivered.{IsNamedLine, delivered}
 use Rattle.safety_laws.specs.Effects.{Written, State, Here, Delivers, Change}
 use Rattle.safety_laws.specs.Groups.{OfGroups, OfMember}
 use Rattle.safety_laws.specs.HasLine.{HasLastIfOwn, lines_have_last}
 use Rattle.safety_laws.specs.Laws.{Law, Holds, Both}
 use Rattle.safety_laws.specs.Made.{WasMade, WasMadeIfAny}
 use Rattle.safety_laws.proofs.DeliveryLaws.{with_delivered, delivered_too}
+use Rattle.safety_laws.proofs.ListLaws.{with_beginnings}
 use Rattle.safety_laws.proofs.Lists.{of_each, each_weaker}
 use Rattle.safety_laws.proofs.MadeLists.{viewed}
-use Rattle.safety_laws.proofs.Passed.{none_of_started}
+use Rattle.safety_laws.proofs.Passed.{none_of_started, line_of_none_else}
 use Rattle.safety_laws.proofs.PassedLists.{each_line}
-use Rattle.safety_laws.proofs.Stack.{LawRules, RulesOver, stack}
+use Rattle.safety_laws.proofs.Stack.{LawRules, RulesOver, stack, first_of}
 use Rattle.safety_laws.proofs.Turns.{all_positive}
 
 -- what a process has as its last decision is of a group
@@ -34,12 +34,6 @@ pub last_positive : (team : Team) (steps : List Step) (w : Written) (who : ℕ) 
 last_positive team steps w who p d known mine is =
     let made : WasMade w.makes d = subst (WasMadeIfAny w.makes) (viewed p.belief d is) mine.maker.keeps.view in
     subst (λ (z : Decision). 1 ≤ z.group) made.2 (of_each (λ (m : items.Make). 1 ≤ m.making.decision.group) w.makes made.0 (all_positive team w.promises w.makes known.makes.arise) made.1)
-
--- a new line is of the process of the step, and of no other
-pub line_of_none_else : (team : Team) (past : List Step) (s : Step) (here : Here) (x : State) → Holds (with_delivered team) (s ∷ past) (world team past) s.who x → (q : ℕ) (r : Process) → s.who ≢ q → (world team past).process_of q ≡ Some r
-    → member_of x.process.identity ≡ member_of r.identity → ⊥
-line_of_none_else team past s here x before q r other runs same =
-    other (sym before.own.0.0.0.0.0.0.promiser.own.is ∙ ap (λ (m : Member). m.who) same ∙ (before.others q r other runs).0.0.0.0.0.0.promiser.own.is)
 
 module _ (team : Team) (past : List Step) (s : Step) (here : Here) (x y : State)
     (before : Holds (with_delivered team) (s ∷ past) (world team past) s.who x) (after : Holds (with_delivered team) (s ∷ past) (world team past) s.who y) (k : Holds lines_have_last (s ∷ past) (world team past) s.who x) where
@@ -63,7 +57,7 @@ module _ (team : Team) (past : List Step) (s : Step) (here : Here) (x y : State)
     own = with_last_decision c.last (ap (λ (p : Process). last_of p.belief) c.process ∙ c.last_is);
     others = λ q r other runs. rw c.written (each_line (HasLastIfOwn r) here.row (member_of x.process.identity) here.life here.step (all_told here.team c.last x.process.log x.process.waiting.pending) x.written.lines
         (all_of (λ (z : Delivered). HasLastIfOwn r (line_item here.row (member_of x.process.identity) here.life here.step z)) (all_told here.team c.last x.process.log x.process.waiting.pending)
-        (λ z same. absurd (line_of_none_else team past s here x before q r other runs same)))
+        (λ z same. absurd (line_of_none_else team past s x (first_of (with_beginnings team) (delivered team) (s ∷ past) (world team past) s.who x before) q r other runs same)))
         (k.others q r other runs));
   }
 
@@ -78,7 +72,7 @@ module _ (team : Team) (past : List Step) (s : Step) (here : Here) (x y : State)
   changed (Change.Make c) = enters c.making.decision (ap (λ (w : Written). w.lines) c.written) (ap (λ (p : Process). last_of p.belief) c.process)
 
 -- in every schedule
-pub has_line_rules : (team : Team) → RulesOver team (with_delivered team) lines_have_last
+has_line_rules : (team : Team) → RulesOver team (with_delivered team) lines_have_last
 has_line_rules team = record {
   nothing = tt;
   waits = λ past s w sound ok before k. tt;

@@ -1,8 +1,6 @@
 -- Lists of updates and entries of which each keeps what its send gave.
-use Rattle.std.proofs.Common.{◌≡◌, ◌≢◌, refl, sym, ap, subst, ◌∙◌, inl, inr, ℕ, Bool, true, false, List, [], ◌∷◌, map, drop, filter_map, find, Option, Some, None, arith}
-use Rattle.std.specs.Prelude.{◌==◌, ◌&&◌}
+use Rattle.std.proofs.Common.{◌≡◌, ◌≢◌, sym, ap, subst, ◌∙◌, inl, inr, ℕ, true, false, List, [], ◌∷◌, map, drop, filter_map, Option, Some, None, arith}
 use Rattle.std.specs.List.{AllByRecursion}
-use Rattle.std.specs.Option.{option_map_or}
 use Rattle.std.proofs.lemmas.Bool.Decides.{nat_tests}
 use Rattle.tw_types.specs.declared.datagram.Body.{Body}
 use Rattle.tw_types.specs.declared.datagram.Body.TheVariants as bodies
@@ -25,8 +23,9 @@ use Rattle.safety_laws.specs.Ids.{IsOfSend, EntryIsOfSend, MakeKeeps, ProcessKee
 use Rattle.tw_types.specs.Items.{In}
 use Rattle.safety_laws.specs.Made.{WasMade, WasMadeIfAny}
 use Rattle.safety_laws.specs.Sends.{id_of, AllSentOnce}
-use Rattle.safety_laws.proofs.Lists.{of_each, each_weaker, each_from, in_drop, found_in}
+use Rattle.safety_laws.proofs.Lists.{of_each, each_weaker, each_from, in_drop}
 use Rattle.safety_laws.proofs.MadeLists.{More}
+use Rattle.safety_laws.proofs.Prefixes.{list_holds}
 use Rattle.safety_laws.proofs.WaitingItems.{all_entered, all_settled}
 
 -- ---- where more was sent, all is kept
@@ -64,15 +63,16 @@ body_more sends more (bodies.Sync ready) all k = tt
 
 -- ---- one send of each id
 
+-- an id is its member and its number
+pub one_id : (a b : UpdateId) → a.who ≡ b.who → a.incarnation ≡ b.incarnation → a.seq ≡ b.seq → a ≡ b
+one_id a b who incarnation seq =
+    ap (λ (w : ℕ). record { who = w; incarnation = a.incarnation; seq = a.seq }) who
+    ∙ ap (λ (i : ℕ). record { who = b.who; incarnation = i; seq = a.seq }) incarnation
+    ∙ ap (λ (n : ℕ). record { who = b.who; incarnation = b.incarnation; seq = n }) seq
+
 -- a passed test of two ids makes them one
 pub same_id_of : (a b : UpdateId) → is_same_id a b ≡ true → a ≡ b
-same_id_of a b e = record_same (grind (arith, nat_tests)) (grind (arith, nat_tests)) (grind (arith, nat_tests))
-  where
-    record_same : a.who ≡ b.who → a.incarnation ≡ b.incarnation → a.seq ≡ b.seq → a ≡ b
-    record_same p q r =
-        ap (λ (w : ℕ). record { who = w; incarnation = a.incarnation; seq = a.seq }) p
-        ∙ ap (λ (i : ℕ). record { who = b.who; incarnation = i; seq = a.seq }) q
-        ∙ ap (λ (n : ℕ). record { who = b.who; incarnation = b.incarnation; seq = n }) r
+same_id_of a b e = one_id a b (grind (arith, nat_tests)) (grind (arith, nat_tests)) (grind (arith, nat_tests))
 
 -- two sends of one id are one send
 pub one_send : (sends : List SentUpdate) (z o : SentUpdate) → AllSentOnce sends → In z sends → In o sends → id_of z ≡ id_of o → z ≡ o
@@ -107,15 +107,7 @@ entered_keeps sends d p once window k = record {
 
 -- the list of a decision that was made
 pub list_keeps : (sends : List SentUpdate) (makes : List Make) (o : Option Decision) → AllByRecursion (MakeKeeps sends) makes → AllByRecursion (IsOfSend sends) (list_of makes o)
-list_keeps sends makes None all = tt
-list_keeps sends makes (Some d) all = go (find is_made makes) refl
-  where
-    is_made : Make → Bool
-    is_made m = (m.making.decision.group == d.group) && (m.making.decision.turn == d.turn)
-
-    go : (o : Option Make) → find is_made makes ≡ o → AllByRecursion (IsOfSend sends) (option_map_or (λ (m : Make). m.log) o [])
-    go None is = tt
-    go (Some m) is = (of_each (MakeKeeps sends) makes m all (found_in is_made makes m is).0).list
+list_keeps sends makes o all = list_holds (AllByRecursion (IsOfSend sends)) tt makes (each_weaker (MakeKeeps sends) (λ (m : Make). AllByRecursion (IsOfSend sends) m.log) makes (λ m k. k.list) all) o
 
 -- its window
 pub window_keeps : (sends : List SentUpdate) (makes : List Make) (d : Decision) → AllByRecursion (MakeKeeps sends) makes → WasMade makes d → AllByRecursion (EntryIsOfSend sends) d.window.items

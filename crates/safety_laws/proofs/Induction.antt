@@ -16,6 +16,7 @@ use Rattle.tw_types.specs.declared.outputs.Mode.{Mode}
 use Rattle.tw_types.specs.declared.outputs.Mode.TheVariants as modes
 use Rattle.tw_num.specs.Interval.{Holds}
 use Rattle.tw_types.specs.Process.{Process, started}
+use Rattle.tw_types.specs.declared.answer.Reason.{Reason}
 use Rattle.tw_machine.specs.Admissible.{Condition, conditions, first_unmet, cause_of, keeps_drift, is_start, is_running, runs_after, may_start, was_sent_to, may_receive, holds_time, each_own}
 use Rattle.tw_machine.specs.Event.{Event}
 use Rattle.tw_machine.specs.Step.{step, looked}
@@ -79,7 +80,7 @@ deed_runs team who h sent (Reference lo hi) (Some p) = refl
 deed_runs team who h sent Look None = refl
 deed_runs team who h sent Look (Some p) = refl
 
-pub runs_in_world : (team : Team) (past : List Step) (who : ℕ) → is_some ((world team past).process_of who) ≡ is_running who past
+runs_in_world : (team : Team) (past : List Step) (who : ℕ) → is_some ((world team past).process_of who) ≡ is_running who past
 runs_in_world team [] who = refl
 runs_in_world team (s ∷ past) who = go (nat_eq s.who who) refl (runs_in_world team past s.who) (runs_in_world team past who)
   where
@@ -117,6 +118,19 @@ pub data Turn (team : Team) (past : List Step) (s : Step) (d : Deed) : Type 0 wh
   Stops : s.act ≡ Crash → d ≡ silent None RowAnswer.Crash → Turn team past s d
   Looks : (p : Process) → (world team past).process_of s.who ≡ Some p → s.act ≡ Look → d ≡ silent (Some (looked team s.h p)) RowAnswer.Look → Turn team past s d
   Happens : (e : Event) (p : Process) → (world team past).process_of s.who ≡ Some p → Brings team past s e → d ≡ happen team s.h e p → Turn team past s d
+
+-- an answer that tells neither of a send nor of what was refused
+abbrev IsMute : RowAnswer → Type 0
+IsMute answer = ((seq : ℕ) → answer ≢ RowAnswer.Sent seq) × ((why : Reason) → answer ≢ RowAnswer.Dropped why)
+
+-- What holds of each event, and wherever a step only starts, stops or looks at a process, holds of each turn.
+pub by_turn : (team : Team) (past : List Step) (s : Step) (P : Deed → Type 0) (d : Deed) → Turn team past s d
+    → ((answer : RowAnswer) → IsMute answer → P (silent None answer)) → ((p : Process) (answer : RowAnswer) → IsMute answer → P (silent (Some p) answer))
+    → ((e : Event) (p : Process) → (world team past).process_of s.who ≡ Some p → Brings team past s e → P (happen team s.h e p)) → P d
+by_turn team past s P d (Turn.Starts mode act comes) none some happens = subst P (sym comes) (some (started s.who mode s.h) RowAnswer.Start ((λ seq e. absurd (cc)), (λ why e. absurd (cc))))
+by_turn team past s P d (Turn.Stops act comes) none some happens = subst P (sym comes) (none RowAnswer.Crash ((λ seq e. absurd (cc)), (λ why e. absurd (cc))))
+by_turn team past s P d (Turn.Looks p runs act comes) none some happens = subst P (sym comes) (some (looked team s.h p) RowAnswer.Look ((λ seq e. absurd (cc)), (λ why e. absurd (cc))))
+by_turn team past s P d (Turn.Happens e p runs brings comes) none some happens = subst P (sym comes) (happens e p runs brings)
 
 sent_to : (who : ℕ) (o : Option Dispatch) (d : Dispatch) → was_sent_to who o ≡ true → o ≡ Some d → d.to ≡ who
 sent_to who None d test e = absurd (cc)

@@ -30,7 +30,7 @@ counts_at team t o support e c = is (rw e at c)
 
 -- Where a majority's supports of a made decision count at a reading, each made group above its group starts above that reading.
 -- It may have been made before or after, but not of a full ballot.
-pub leases_outlast : (team : Team) (promises : List Promised) (makes : List Make) → Agree team promises makes → (t : ℕ) (lower higher : Make) → In lower makes → In higher makes
+leases_outlast : (team : Team) (promises : List Promised) (makes : List Make) → Agree team promises makes → (t : ℕ) (lower higher : Make) → In lower makes → In higher makes
     → team.n / 2 + 1 ≤ count_by (λ (s : Seat). counts team t s.support) lower.making.decision.seats.items → higher.making.decision.turn ≡ 0 → lower.making.decision.group < higher.making.decision.group → is_full higher ≡ false
     → t < higher.making.decision.start
 leases_outlast team promises makes k t lower higher i j enough turn later not_full = by x.precedes.support
@@ -56,7 +56,7 @@ leases_outlast team promises makes k t lower higher i j enough turn later not_fu
     by (inr over) = let read = after.reading in omega (arith, counted, over, read)
 
 -- no group starts early yet
-pub none_full : (m : Make) → is_full m ≡ false
+none_full : (m : Make) → is_full m ≡ false
 unfolding is_full
 none_full m = refl
 

@@ -21,14 +21,15 @@ use Rattle.tw_machine.specs.Run.{Delivered}
 use Rattle.tw_machine.specs.Standing.{member_of, last_decision}
 use Rattle.tw_machine.specs.Step.{step}
 use Rattle.tw_machine.specs.World.{Deed, happen, deed_in, world, Admissible}
-use Rattle.tw_machine.proofs.Tables.{same_number}
+use Rattle.tw_machine.proofs.Tables.{same_number, other_number}
 use Rattle.tw_machine.proofs.Steps.{step_identity}
 use Rattle.safety_laws.specs.Seen.{delivery_of, IsLineOf, lines_of, AreLinesOf, shown_by, shown_in, shown_of}
-use Rattle.safety_laws.proofs.Induction.{earlier, Turn, turn}
+use Rattle.safety_laws.proofs.FirstDecisions.{one_member}
+use Rattle.safety_laws.proofs.Induction.{earlier, Turn, turn, by_turn}
 use Rattle.safety_laws.proofs.LinesTold.{delivery_told, AgreesOnTold, step_agrees_on_told}
 use Rattle.safety_laws.proofs.Lists.{of_each, each_from}
+use Rattle.safety_laws.proofs.Places.{each_pushed, exists_pushed, exists_last}
 use Rattle.safety_laws.proofs.Promises.{promised_well}
-use Rattle.safety_laws.proofs.Seen.{each_pushed, exists_before, exists_last}
 
 -- ---- lines by the numbers of their rows
 
@@ -40,9 +41,6 @@ put_on (x ∷ more) older = put_on more (x ∷ older)
 -- these bear a number
 abbrev Bear : ℕ → List Line → Type 0
 Bear number xs = AllByRecursion (λ (x : Line). x.row ≡ number) xs
-
-other_number : (m n : ℕ) → m ≢ n → nat_eq m n ≡ false
-other_number m n other = grind arith
 
 -- lines of this number come behind those that are there
 own_lines : (number : ℕ) (new older : List Line) → Bear number new → lines_of number (put_on new older) ≡ lines_of number older ++ new
@@ -100,8 +98,8 @@ bear_own r new own = each_from (λ (x : Line). x.row ≡ r.step) new (λ x i. (o
 
 lines_on_row : (next : ℕ) (rows : List Row) (r : Row) (older newer : List Line) → r.step ≡ next → AreLines next rows older → AddsLines r older newer → AreLines (suc next) (rows ++ r ∷ []) newer
 lines_on_row next rows r older newer number before adds = record {
-  numbered = each_pushed (λ q. q.step < suc next) rows r (λ i q at. let l = before.numbered i q at in omega (arith, l)) (omega (arith, number));
-  each_row = each_pushed (λ q. AreLinesOf q (lines_of q.step newer)) rows r
+  numbered = each_pushed (λ i q. q.step < suc next) rows r (λ i q at. let l = before.numbered i q at in omega (arith, l)) (omega (arith, number));
+  each_row = each_pushed (λ i q. AreLinesOf q (lines_of q.step newer)) rows r
       (λ i q at.
       let l = before.numbered i q at in
       let differs : r.step ≢ q.step = λ same. absurd (omega (arith, l, same, number)) in
@@ -117,8 +115,8 @@ lines_on_row next rows r older newer number before adds = record {
     low x i = let e = before.each_line x i in let l = before.numbered e.0 e.1 e.2 in omega (arith, l, e.3.number, number)
 
     by : (x : Line) → In x adds.new ⊎ In x older → Exists (rows ++ r ∷ []) (λ i q. IsLineOf q x)
-    by x (inl j) = exists_last (λ q. IsLineOf q x) rows r (of_each (IsLineOf r) adds.new x adds.own.each j)
-    by x (inr j) = exists_before (λ q. IsLineOf q x) rows r (before.each_line x j)
+    by x (inl j) = exists_last (λ i q. IsLineOf q x) rows r (of_each (IsLineOf r) adds.new x adds.own.each j)
+    by x (inr j) = exists_pushed (λ i q. IsLineOf q x) rows r (before.each_line x j)
 
 -- ---- the row of a deed
 
@@ -148,7 +146,7 @@ event_adds_lines meaning team number already life s before older e p named agree
     member = member_of (step team s.h e p).process.identity
 
     is_member : member_of (step team s.h e p).process.identity ≡ record { who = s.who; incarnation = (step team s.h e p).process.identity.incarnation }
-    is_member = ap (λ (who : ℕ). record { who = who; incarnation = (step team s.h e p).process.identity.incarnation }) (ap (λ (i : Identity). i.who) (step_identity team s.h e p) ∙ named)
+    is_member = one_member member (record { who = s.who; incarnation = member.incarnation }) (ap (λ (i : Identity). i.who) (step_identity team s.h e p) ∙ named) refl
 
     item : Delivered → Line
     item = line_item number member life s
@@ -163,14 +161,9 @@ event_adds_lines meaning team number already life s before older e p named agree
 
 deed_adds_lines : {Content : Type 0} (meaning : Meaning Content) (team : Team) (past : List Step) (number already life : ℕ) (s : Step) (before : Option Process) (older : List Line) (d : Deed) → Turn team past s d
     → ((p : Process) → (world team past).process_of s.who ≡ Some p → p.identity.who ≡ s.who) → AddsOfDeed meaning team number already life s before older d
-deed_adds_lines meaning team past number already life s before older d (Turn.Starts mode act comes) named =
-    subst (AddsOfDeed meaning team number already life s before older) (sym comes) (record { new = []; is = refl; own = record { each = tt; whole = refl } })
-deed_adds_lines meaning team past number already life s before older d (Turn.Stops act comes) named =
-    subst (AddsOfDeed meaning team number already life s before older) (sym comes) (record { new = []; is = refl; own = record { each = tt; whole = refl } })
-deed_adds_lines meaning team past number already life s before older d (Turn.Looks p runs act comes) named =
-    subst (AddsOfDeed meaning team number already life s before older) (sym comes) (record { new = []; is = refl; own = record { each = tt; whole = refl } })
-deed_adds_lines meaning team past number already life s before older d (Turn.Happens e p runs brings comes) named =
-    subst (AddsOfDeed meaning team number already life s before older) (sym comes) (event_adds_lines meaning team number already life s before older e p (named p runs) (step_agrees_on_told team s.h e p))
+deed_adds_lines meaning team past number already life s before older d t named = by_turn team past s (AddsOfDeed meaning team number already life s before older) d t
+    (λ answer mute. record { new = []; is = refl; own = record { each = tt; whole = refl } }) (λ p answer mute. record { new = []; is = refl; own = record { each = tt; whole = refl } })
+    (λ e p runs brings. event_adds_lines meaning team number already life s before older e p (named p runs) (step_agrees_on_told team s.h e p))
 
 -- the lines after one step more
 step_adds_lines : {Content : Type 0} (meaning : Meaning Content) (team : Team) (past : List Step) (s : Step) → IsSound team → Admissible team (s ∷ past)

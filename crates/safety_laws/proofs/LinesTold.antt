@@ -19,16 +19,16 @@ use Rattle.tw_machine.specs.Event.{Event}
 use Rattle.tw_machine.specs.Run.{AtPass, AtEarly, AtWait, Delivered}
 use Rattle.tw_machine.specs.Standing.{last_decision}
 use Rattle.tw_machine.specs.Step.{step}
-use Rattle.tw_machine.proofs.Tables.{all_joined}
 use Rattle.tw_machine.proofs.Told.{Tells, Nothing, Whole, step_tells}
 use Rattle.safety_laws.specs.Seen.{Delivery, Passed, Early, delivery_at}
+use Rattle.safety_laws.proofs.PassedLists.{each_told}
 
 -- how a row prints what was told
 abbrev pub delivery_told : Delivered → Delivery
 delivery_told x = delivery_at x.place x.update
 
 -- the deliveries that are printed of a step
-abbrev pub deliveries_printed : Outputs → List Delivery
+abbrev deliveries_printed : Outputs → List Delivery
 deliveries_printed out = map Passed (map pass_printed out.passes) ++ map Early (map update_printed out.earlies)
 
 -- told by this decision
@@ -44,19 +44,11 @@ pub record AgreesOnTold (d : Decision) (out : Outputs) (told : List Delivered) :
 abbrev pass_told : Decision → code_pass.Pass → Delivered
 pass_told d p = delivered_at d (AtPass p.position p.how) p.kept
 
-passes_by : (d : Decision) (ps : List code_pass.Pass) → AllByRecursion (IsBy d) (map (pass_told d) ps)
-passes_by d [] = tt
-passes_by d (p ∷ ps) = ((refl, refl), passes_by d ps)
-
 passes_printed : (d : Decision) (ps : List code_pass.Pass) → map delivery_told (map (pass_told d) ps) ≡ map Passed (map pass_printed ps)
 passes_printed d [] = refl
 passes_printed d (p ∷ ps) = ap (λ rest. Passed (pass_printed p) ∷ rest) (passes_printed d ps)
 
 -- what waited
-
-waits_by : (d : Decision) (ks : List Kept) → AllByRecursion (IsBy d) (map (delivered_at d AtWait) ks)
-waits_by d [] = tt
-waits_by d (k ∷ ks) = ((refl, refl), waits_by d ks)
 
 waits_printed : (d : Decision) (ks : List Kept) → map delivery_told (map (delivered_at d AtWait) ks) ≡ map Early (map update_printed ks)
 waits_printed d [] = refl
@@ -66,15 +58,6 @@ waits_printed d (k ∷ ks) = ap (λ rest. Early (update_printed k) ∷ rest) (wa
 
 abbrev earlies_at : Decision → Log → List ℕ → List Delivered
 earlies_at d log is = filter_map (λ (i : ℕ). option_map (λ (k : Kept). delivered_at d (AtEarly i) (as_early k)) (log_at i log)) is
-
-earlies_by : (d : Decision) (log : Log) (is : List ℕ) → AllByRecursion (IsBy d) (earlies_at d log is)
-earlies_by d log [] = tt
-earlies_by d log (i ∷ is) = go (log_at i log) (earlies_by d log is)
-  where
-    go : (o : Option Kept) → AllByRecursion (IsBy d) (earlies_at d log is) →
-        AllByRecursion (IsBy d) (cons_option (option_map (λ (k : Kept). delivered_at d (AtEarly i) (as_early k)) o) (earlies_at d log is))
-    go None rest = rest
-    go (Some k) rest = ((refl, refl), rest)
 
 -- the updates there
 abbrev early_ones : Log → List ℕ → List Kept
@@ -90,12 +73,6 @@ earlies_printed d log (i ∷ is) = go (log_at i log) (earlies_printed d log is)
     go (Some k) rest = ap (λ rest. Early (update_printed k) ∷ rest) rest
 
 -- and all that
-
-all_by : (team : Team) (d : Decision) (log : Log) (pending : List Kept) → AllByRecursion (IsBy d) (all_told team d log pending)
-all_by team d log pending =
-    let after : Log = run_passed team d log in
-    all_joined (IsBy d) (map (pass_told d) (passes team d log) ++ earlies_told team d after.passed after) (map (delivered_at d AtWait) (weaks pending))
-    (all_joined (IsBy d) (map (pass_told d) (passes team d log)) (earlies_told team d after.passed after) (passes_by d (passes team d log)) (earlies_by d after (early_positions team d after.passed after))) (waits_by d (weaks pending))
 
 -- early ones and those that waited are printed one after the other
 early_joined : (xs ys : List Kept) → map Early (map update_printed (xs ++ ys)) ≡ map Early (map update_printed xs) ++ map Early (map update_printed ys)
@@ -122,7 +99,7 @@ all_printed team d log pending =
 told_agrees : (team : Team) (last : Option Decision) (out : Outputs) (told : List Delivered) → Tells team last out told → AgreesOnTold (or_none last) out told
 told_agrees team last out told (Nothing passes earlies none) = record { each = rw none tt; whole = rw (none, passes, earlies) refl }
 told_agrees team last out told (Whole log pending passes earlies is) = record {
-  each = rw is (all_by team (or_none last) log pending);
+  each = rw is (each_told (IsBy (or_none last)) team (or_none last) log pending (λ i k at may below. (refl, refl)) (λ i k j at early. (refl, refl)) (λ k j early. (refl, refl)));
   whole = ap (λ ds. map delivery_told ds) is ∙ all_printed team (or_none last) log pending
       ∙ ap (λ ps. map Passed (map pass_printed ps) ++ map Early (map update_printed (earlies_of log pending))) (sym passes)
       ∙ ap (λ ks. map Passed (map pass_printed out.passes) ++ map Early (map update_printed ks)) (sym earlies);

@@ -18,7 +18,7 @@ use Rattle.safety_laws.proofs.Whole.{lists_rules}
 
 -- ---- the laws, one on the other
 
-abbrev pub with_reported : Team → Law
+abbrev with_reported : Team → Law
 with_reported team = Both (with_ids team) reported
 
 abbrev pub with_beginnings : Team → Law

@@ -11,7 +11,7 @@ use Rattle.safety_laws.specs.Groups.{OfGroups, BeginsAbove}
 use Rattle.safety_laws.specs.Lists.{AreLists}
 use Rattle.safety_laws.specs.Supported.{OfSupported}
 use Rattle.safety_laws.proofs.Acknowledged.{supports_tell, acked_last}
-use Rattle.safety_laws.proofs.Prefixes.{HaveLists}
+use Rattle.safety_laws.proofs.Begun.{have_lists}
 use Rattle.safety_laws.proofs.Quorums.{Agree, own_names}
 use Rattle.safety_laws.proofs.Silent.{adds_last}
 use Rattle.safety_laws.proofs.Supports.{all_supported}
@@ -26,13 +26,10 @@ module _ (team : Team) (steps : List Step) (w : Written) (k : OfGroups team step
       record { arise = k.makes.arise; supported = all_supported team w.promises w.makes k.makes.arise names; precede = k.precede; named = names }
 
   module _ (lists : AreLists w.makes) where
-    pub lists_at : HaveLists team w.promises w.makes
-    lists_at = record { arise = k.makes.arise; once = k.once; listed = lists.listed }
-
     -- acknowledged entries last
     pub acknowledged_at : (m later : Make) (l : ℕ) → In m w.makes → In later w.makes → team.n / 2 + 1 ≤ count_by (has_acked l) m.making.decision.seats.items → BeginsAbove m.making.decision.group later
         → (l ≤ length later.log) × (take l later.log ≡ take l m.log)
-    acknowledged_at = acked_last team w.promises w.makes lists_at agree_at lists.whole
+    acknowledged_at = acked_last team w.promises w.makes (have_lists team steps w k lists) agree_at lists.whole
 
     -- supports tell lengths
     pub supports_at : AllByRecursion (λ (m : Make). AllByRecursion (Supported w.makes m) m.making.decision.seats.items) w.makes
@@ -40,4 +37,4 @@ module _ (team : Team) (steps : List Step) (w : Written) (k : OfGroups team step
 
     -- silent groups add nothing
     pub silent_at : OfSupported team w → (m : Make) → In m w.makes → AddsLast w.makes m
-    silent_at s = adds_last team w.promises w.makes lists_at agree_at s.appended
+    silent_at s = adds_last team w.promises w.makes (have_lists team steps w k lists) agree_at s.appended

@@ -34,7 +34,8 @@ use Rattle.safety_laws.specs.Acknowledged.{has_acked, Supported, IsSilent, AddsL
 use Rattle.safety_laws.specs.Beginnings.{IsBeginning, list_at, known}
 use Rattle.safety_laws.specs.Groups.{BeginsAbove}
 use Rattle.safety_laws.specs.Lists.{AllListed, entries_of, seqs_of, marks_of, MarksAscend, no_mark}
-use Rattle.safety_laws.proofs.SendsWorked.{at, ordered, entry, update, seat, of_length, turn_0, turn_1, turn_2, turn_3}
+use Rattle.safety_laws.proofs.SendsWorked.{ordered, entry, update, seat, of_length, turn_0, turn_1, turn_2, turn_3}
+use Rattle.safety_laws.proofs.Worked.{at}
 
 -- 0 receives both updates of 1, and not 7.3; it makes group 9 with 1, which isn't told, and 300 milliseconds later group 12
 abbrev in_ballot : List Step

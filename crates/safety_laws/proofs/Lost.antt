@@ -1,6 +1,7 @@
 -- What went early at a process is marked there, or lost for good.
-use Rattle.std.proofs.Common.{◌≡◌, ◌≢◌, refl, sym, ap, subst, ◌∙◌, inl, inr, ◌⊎◌, ℕ, ◌≤◌, Bool, true, false, not, List, ◌∷◌, ◌++◌, map, filter, Option, Some, None, arith}
+use Rattle.std.proofs.Common.{◌≡◌, ◌≢◌, refl, sym, ap, subst, ◌∙◌, inl, inr, ◌⊎◌, ℕ, ◌≤◌, Bool, true, false, not, List, ◌∷◌, ◌++◌, filter, Option, Some, arith}
 use Rattle.std.specs.List.{AllByRecursion}
+use Rattle.std.proofs.Math.Logic.{⊎_map}
 use Rattle.tw_types.specs.declared.team.Team.{Team}
 use Rattle.tw_types.specs.declared.message.Decision.{Decision}
 use Rattle.tw_types.specs.declared.message.Kept.{Kept}
@@ -16,58 +17,44 @@ use Rattle.tw_types.specs.Updates.{with_pending, waits_before, settled}
 use Rattle.tw_types.specs.Waiting.{Waiting, payloads_of}
 use Rattle.tw_types.proofs.Appended.{in_filter}
 use Rattle.tw_machine.specs.Delivering.{all_told}
-use Rattle.tw_machine.specs.History.{Line, line_item, list_of}
+use Rattle.tw_machine.specs.History.{Line, line_item}
 use Rattle.tw_machine.specs.Run.{Delivered}
 use Rattle.tw_machine.specs.Standing.{member_of}
 use Rattle.tw_machine.specs.World.{world}
 use Rattle.tw_machine.proofs.Tables.{all_of}
-use Rattle.safety_laws.specs.Beginnings.{unmarked, IsEndOfKnown}
+use Rattle.safety_laws.specs.Beginnings.{IsEndOfKnown}
 use Rattle.safety_laws.specs.Delivered.{IsPassedOf, IsNamedLine}
-use Rattle.safety_laws.specs.Early.{is_early, IsMarked, IsLost, IsMarkedOrLost, lost}
+use Rattle.safety_laws.specs.Early.{IsMarked, IsLost, IsMarkedOrLost, lost}
 use Rattle.safety_laws.specs.Effects.{Written, State, Here, Waits, Stays, Puts, Fills, Goes, ForTaking, ForGroup, Takes, Makes, Delivers, Change}
 use Rattle.safety_laws.specs.Groups.{OfMember, of_groups}
 use Rattle.safety_laws.specs.HasLine.{HasLastIfOwn}
-use Rattle.safety_laws.specs.Laws.{Law, Holds, no_law, Both}
+use Rattle.safety_laws.specs.Laws.{Law, Holds, Both}
 use Rattle.safety_laws.specs.Made.{WasMade}
 use Rattle.safety_laws.specs.Pending.{pending}
 use Rattle.safety_laws.specs.Seated.{AllAddOfSeats}
-use Rattle.safety_laws.proofs.DeliveryLaws.{with_delivered}
-use Rattle.safety_laws.proofs.HasLine.{with_last, last_too, line_of_none_else}
+use Rattle.safety_laws.proofs.HasLine.{with_last, last_too}
 use Rattle.safety_laws.proofs.Held.{may_take}
+use Rattle.safety_laws.proofs.ListLaws.{with_beginnings}
 use Rattle.safety_laws.proofs.Lists.{of_each, each_from, each_weaker, in_first, in_last}
+use Rattle.safety_laws.proofs.LostMakes.{made_lost}
 use Rattle.safety_laws.proofs.LostMarks.{MarksStay, marks_same, mark_stays, marks_joined, log_marks, pending_marks, IsMarkedIn, early_are_marked}
 use Rattle.safety_laws.proofs.LostTaken.{KnowsMakes, Entered, lost_still, marked_or_lost}
-use Rattle.safety_laws.proofs.MadeLists.{More, more_same, more_by, viewed, last_made, has_last, own_group}
-use Rattle.safety_laws.proofs.Passed.{none_of_started, whole_list}
+use Rattle.safety_laws.proofs.MadeLists.{More, more_same, more_by, viewed, last_made, own_group, some_last}
+use Rattle.safety_laws.proofs.Passed.{none_of_started, own_list, line_of_none_else}
 use Rattle.safety_laws.proofs.PassedLists.{each_line}
 use Rattle.safety_laws.proofs.Pending.{pending_after, pending_rules}
-use Rattle.safety_laws.proofs.Prefixes.{list_of_made}
 use Rattle.safety_laws.proofs.Seated.{seated_rules}
-use Rattle.safety_laws.proofs.Stack.{Stepping, IsMailed, LawRules, RulesOver, IsPartOf, OfHistory, stack, rests_on, part_holds}
+use Rattle.safety_laws.proofs.Stack.{Stepping, LawRules, RulesOver, IsPartOf, OfHistory, stack, rests_on, part_holds, over_any}
 
 -- ---- what the law rests on
 
 -- the laws on what is delivered, that what is pending is settled, and that what is added is of members
-abbrev pub before_lost : Team → Law
+abbrev before_lost : Team → Law
 before_lost team = Both (Both (with_last team) pending) (OfHistory AllAddOfSeats)
 
--- the laws on what is delivered are among these
-delivered_part : (team : Team) → IsPartOf (with_delivered team) (before_lost team)
-delivered_part team = record { history = λ steps w k. k.0.0.0; running = λ steps w who p k. k.0.0.0 }
-
--- A make leaves lost what was lost for an informed process with a last decision.
-abbrev pub MakesGrow : Team → Law → Type 0
-MakesGrow team earlier =
-    (past : List Step) (s : Step) (here : Here) (x y : State) → Stepping team past s here → IsMailed here x.written → Makes here x y
-    → Holds earlier (s ∷ past) (world team past) s.who x → Holds earlier (s ∷ past) (world team past) s.who y
-    → (who : ℕ) (p : Process) → earlier.Running (s ∷ past) x.written who p → is_informed p.belief ≡ true → 1 ≤ (or_none (last_of p.belief)).group
-    → (line : Line) → In line x.written.lines → line.member ≡ member_of p.identity → is_early line.delivered.place ≡ true
-    → IsLost team x.written.makes p line.delivered.update.entry.id → IsLost team y.written.makes p line.delivered.update.entry.id
-
--- by what is a part of some laws it does so by all of them
-pub grow_over : (team : Team) (part whole : Law) → IsPartOf part whole → MakesGrow team part → MakesGrow team whole
-grow_over team part whole is grows past s here x y at mailed make before after who p k =
-    grows past s here x y at mailed make (part_holds part whole (s ∷ past) (world team past) s.who x is before) (part_holds part whole (s ∷ past) (world team past) s.who y is after) who p (is.running (s ∷ past) x.written who p k)
+-- the laws on lists are among these
+beginnings_part : (team : Team) → IsPartOf (with_beginnings team) (before_lost team)
+beginnings_part team = record { history = λ steps w k. k.0.0.0.0; running = λ steps w who p k. k.0.0.0.0 }
 
 -- what is known of what was written down,
 knows_makes : (team : Team) (steps : List Step) (w : Written) → (before_lost team).History steps w → KnowsMakes team steps w
@@ -83,11 +70,6 @@ record KnowsProcess (team : Team) (steps : List Step) (w : Written) (who : ℕ) 
 
 knows_process : (team : Team) (steps : List Step) (w : Written) (who : ℕ) (p : Process) → (before_lost team).Running steps w who p → KnowsProcess team steps w who p
 knows_process team steps w who p k = record { mine = k.0.0.0.0.0.0.0.0.0; ends = k.0.0.0.0.1.1; base = k.0.0.0.1.base; passed = k.0.0.0.1.passed; last = k.0.0.1 }
-
--- the list of a process is that of its last decision
-own_list : (team : Team) (steps : List Step) (w : Written) (who : ℕ) (p : Process) (d : Decision) → KnowsMakes team steps w → KnowsProcess team steps w who p → last_of p.belief ≡ Some d → (was : WasMade w.makes d) → map unmarked p.log.entries ≡ was.0.log
-own_list team steps w who p d known k is was =
-    whole_list w.makes p was.0.log k.base k.ends (has_last p d is) (ap (list_of w.makes) (viewed p.belief d is) ∙ list_of_made w.makes known.groups.once d was)
 
 -- ---- what waits keeps its marks
 
@@ -116,9 +98,8 @@ waiting_marks here x y change = go change
 
 -- ---- an effect
 
-module _ (team : Team) (earlier : Law) (part : IsPartOf (before_lost team) earlier) (grows : MakesGrow team earlier)
-    (past : List Step) (s : Step) (here : Here) (x y : State) (at : Stepping team past s here) (mailed : IsMailed here x.written)
-    (before : Holds earlier (s ∷ past) (world team past) s.who x) (after : Holds earlier (s ∷ past) (world team past) s.who y) (k : Holds (lost team) (s ∷ past) (world team past) s.who x) where
+module _ (team : Team) (past : List Step) (s : Step) (here : Here) (x y : State) (at : Stepping team past s here)
+    (before : Holds (before_lost team) (s ∷ past) (world team past) s.who x) (after : Holds (before_lost team) (s ∷ past) (world team past) s.who y) (k : Holds (lost team) (s ∷ past) (world team past) s.who x) where
   -- the schedule with this step
   abbrev now : List Step
   now = s ∷ past
@@ -130,35 +111,28 @@ module _ (team : Team) (earlier : Law) (part : IsPartOf (before_lost team) earli
   abbrev q : Process
   q = y.process
 
-  -- what is known before
-  was : Holds (before_lost team) now (world team past) s.who x
-  was = part_holds (before_lost team) earlier now (world team past) s.who x part before
-
+  -- what is known before and after it of what was written down,
   makes_before : KnowsMakes team now x.written
-  makes_before = knows_makes team now x.written was.history
-
-  own_before : KnowsProcess team now x.written s.who p
-  own_before = knows_process team now x.written s.who p was.own
-
-  -- and after it
-  is : Holds (before_lost team) now (world team past) s.who y
-  is = part_holds (before_lost team) earlier now (world team past) s.who y part after
+  makes_before = knows_makes team now x.written before.history
 
   makes_after : KnowsMakes team now y.written
-  makes_after = knows_makes team now y.written is.history
+  makes_after = knows_makes team now y.written after.history
+
+  -- and of its process
+  own_before : KnowsProcess team now x.written s.who p
+  own_before = knows_process team now x.written s.who p before.own
 
   own_after : KnowsProcess team now y.written s.who q
-  own_after = knows_process team now y.written s.who q is.own
+  own_after = knows_process team now y.written s.who q after.own
 
   -- ---- where no decision is entered
 
   -- what was marked or lost is still, where marks stay
   one_still : q.identity ≡ p.identity → q.belief ≡ p.belief → MarksStay (p.log.entries ++ p.waiting.pending) (q.log.entries ++ q.waiting.pending) → (l : Line) → IsMarkedOrLost team x.written.makes p l → IsMarkedOrLost team x.written.makes q l
-  one_still identity belief stay l f mine early = go (f (mine ∙ ap member_of identity) early)
-    where
-      go : IsMarked p l.delivered.update.entry.id ⊎ IsLost team x.written.makes p l.delivered.update.entry.id → IsMarked q l.delivered.update.entry.id ⊎ IsLost team x.written.makes q l.delivered.update.entry.id
-      go (inl m) = inl (mark_stays (p.log.entries ++ p.waiting.pending) (q.log.entries ++ q.waiting.pending) stay l.delivered.update.entry.id m)
-      go (inr gone) = inr (lost_still team now x.written makes_before p q l.delivered.update.entry.id identity (let same = ap (λ (b : Belief). (or_none (last_of b)).group) belief in omega (arith, same)) gone)
+  one_still identity belief stay l f mine early = ⊎_map
+      (mark_stays (p.log.entries ++ p.waiting.pending) (q.log.entries ++ q.waiting.pending) stay l.delivered.update.entry.id)
+      (lost_still team now x.written makes_before p q l.delivered.update.entry.id identity (let same = ap (λ (b : Belief). (or_none (last_of b)).group) belief in omega (arith, same)))
+      (f (mine ∙ ap member_of identity) early)
 
   -- of all lines
   all_still : q.identity ≡ p.identity → q.belief ≡ p.belief → MarksStay (p.log.entries ++ p.waiting.pending) (q.log.entries ++ q.waiting.pending) → is_informed q.belief ≡ true → AllByRecursion (IsMarkedOrLost team x.written.makes q) x.written.lines
@@ -200,16 +174,11 @@ module _ (team : Team) (earlier : Law) (part : IsPartOf (before_lost team) earli
     others = λ i r other runs informed. subst (λ (w : Written). AllByRecursion (IsMarkedOrLost team w.makes r) w.lines) (sym c.written)
         (each_line (IsMarkedOrLost team x.written.makes r) here.row (member_of p.identity) here.life here.step (all_told here.team c.last p.log p.waiting.pending) x.written.lines
         (all_of (λ (z : Delivered). IsMarkedOrLost team x.written.makes r (line_item here.row (member_of p.identity) here.life here.step z)) (all_told here.team c.last p.log p.waiting.pending)
-        (λ z same early. absurd (line_of_none_else team past s here x (part_holds (with_delivered team) (before_lost team) now (world team past) s.who x (delivered_part team) was) i r other runs same)))
+        (λ z same early. absurd (line_of_none_else team past s x (part_holds (with_beginnings team) (before_lost team) now (world team past) s.who x (beginnings_part team) before) i r other runs same)))
         (k.others i r other runs informed));
   }
 
   -- ---- a decision is entered
-
-  -- that of a group is one
-  some_last : (o : Option Decision) → 1 ≤ (or_none o).group → (v : Decision) × (o ≡ Some v)
-  some_last None low = absurd (omega (arith, low))
-  some_last (Some v) low = (v, refl)
 
   -- what an effect that enters this decision is
   record Enters (d : Decision) : Type 0 where
@@ -221,8 +190,7 @@ module _ (team : Team) (earlier : Law) (part : IsPartOf (before_lost team) earli
     waiting : q.waiting.pending ≡ settled d p.waiting.pending
     promised : q.vote.promised ≡ p.vote.promised
     group : d.group ≡ p.vote.promised
-    grown : is_informed p.belief ≡ true → 1 ≤ (or_none (last_of p.belief)).group → (l : Line) → In l x.written.lines → l.member ≡ member_of p.identity → is_early l.delivered.place ≡ true
-        → IsLost team x.written.makes p l.delivered.update.entry.id → IsLost team y.written.makes p l.delivered.update.entry.id
+    grown : 1 ≤ (or_none (last_of p.belief)).group → (id : UpdateId) → IsLost team x.written.makes p id → IsLost team y.written.makes p id
 
   module _ (d : Decision) (e : Enters d) where
     -- the decision was made
@@ -253,12 +221,12 @@ module _ (team : Team) (earlier : Law) (part : IsPartOf (before_lost team) earli
         mine = own_after.mine;
         was_v = (v_made.0, e.more v_made.0 v_made.1, v_made.2);
         was_d = was_made;
-        list_v = own_list team now x.written s.who p v makes_before own_before v_is v_made;
-        list_d = own_list team now y.written s.who q d makes_after own_after e.last was_made;
+        list_v = own_list x.written.makes p v makes_before.groups.once own_before.base own_before.ends v_is v_made;
+        list_d = own_list y.written.makes q d makes_after.groups.once own_after.base own_after.ends e.last was_made;
         entries = needed p.log d;
         log = ap (λ (l : Log). l.entries) e.log;
         pending = e.waiting;
-        settled_before = was.own.0.1;
+        settled_before = before.own.0.1;
       }
 
       -- of an update that was marked or lost
@@ -273,7 +241,7 @@ module _ (team : Team) (earlier : Law) (part : IsPartOf (before_lost team) earli
         let before_it = (of_each (IsPassedOf p) x.written.lines l own_before.passed i mine).0 in
         let positive = of_each (HasLastIfOwn p) x.written.lines l own_before.last i mine in
         let v = some_last (last_of p.belief) positive in
-        goes v.0 v.1 l.delivered.update.entry.id (e.grown before_it positive l i mine early) (of_each (IsMarkedOrLost team x.written.makes p) x.written.lines l (k.own before_it) i mine early)))
+        goes v.0 v.1 l.delivered.update.entry.id (e.grown positive l.delivered.update.entry.id) (of_each (IsMarkedOrLost team x.written.makes p) x.written.lines l (k.own before_it) i mine early)))
 
   -- a decision is taken
   takes : (c : Takes here x y) → Enters c.taken_decision
@@ -286,8 +254,12 @@ module _ (team : Team) (earlier : Law) (part : IsPartOf (before_lost team) earli
     waiting = ap (λ (r : Process). r.waiting.pending) c.process ∙ pending_after c.taken_decision p.waiting;
     promised = ap (λ (r : Process). r.vote.promised) c.process;
     group = (may_take here x c.taken_decision c.source own_before.mine.promiser.held).promised;
-    grown = λ informed positive l i mine early gone. subst (λ (w : Written). IsLost team w.makes p l.delivered.update.entry.id) (sym c.written) gone;
+    grown = λ positive id gone. subst (λ (w : Written). IsLost team w.makes p id) (sym c.written) gone;
   }
+
+  -- what is lost stays lost when a decision is made
+  grows : Makes here x y → (who : ℕ) (r : Process) → OfMember team now x.written who r → 1 ≤ (or_none (last_of r.belief)).group → (id : UpdateId) → IsLost team x.written.makes r id → IsLost team y.written.makes r id
+  grows c = made_lost team past s here x y at before.history.0.0.0.0.0 after.history.0.0.0.0.0 c
 
   -- or made
   makes : (c : Makes here x y) → Enters c.making.decision
@@ -300,19 +272,15 @@ module _ (team : Team) (earlier : Law) (part : IsPartOf (before_lost team) earli
     waiting = ap (λ (r : Process). r.waiting.pending) c.process ∙ pending_after c.making.decision p.waiting;
     promised = ap (λ (r : Process). r.vote.promised) c.process;
     group = c.group;
-    grown = grows past s here x y at mailed c before after s.who p before.own;
+    grown = grows c s.who p own_before.mine;
   }
 
   -- another process's are as they were, but for what grew
   others_grow : (c : Makes here x y) → (i : ℕ) (r : Process) → s.who ≢ i → (world team past).process_of i ≡ Some r → is_informed r.belief ≡ true → AllByRecursion (IsMarkedOrLost team y.written.makes r) y.written.lines
   others_grow c i r other runs informed = subst (AllByRecursion (IsMarkedOrLost team y.written.makes r)) (sym (ap (λ (w : Written). w.lines) c.written)) (each_from (IsMarkedOrLost team y.written.makes r) x.written.lines (λ l j mine early.
-      let positive = of_each (HasLastIfOwn r) x.written.lines l (was.others i r other runs).0.0.1 j mine in
-      go l (grows past s here x y at mailed c before after i r (before.others i r other runs) informed positive l j mine early) (of_each (IsMarkedOrLost team x.written.makes r) x.written.lines l (k.others i r other runs informed) j mine early)))
-    where
-      go : (l : Line) → (IsLost team x.written.makes r l.delivered.update.entry.id → IsLost team y.written.makes r l.delivered.update.entry.id) → IsMarked r l.delivered.update.entry.id ⊎ IsLost team x.written.makes r l.delivered.update.entry.id
-          → IsMarked r l.delivered.update.entry.id ⊎ IsLost team y.written.makes r l.delivered.update.entry.id
-      go l grown (inl m) = inl m
-      go l grown (inr gone) = inr (grown gone)
+      let known = knows_process team now x.written i r (before.others i r other runs) in
+      ⊎_map (λ marked. marked) (grows c i r known.mine (of_each (HasLastIfOwn r) x.written.lines l known.last j mine) l.delivered.update.entry.id)
+      (of_each (IsMarkedOrLost team x.written.makes r) x.written.lines l (k.others i r other runs informed) j mine early)))
 
   -- ---- each effect
 
@@ -336,33 +304,32 @@ module _ (team : Team) (earlier : Law) (part : IsPartOf (before_lost team) earli
 
 -- ---- the law
 
--- Lost marks are lost for good, over laws that have what this one rests on, and by which a make leaves lost what was.
-pub lost_rules : (team : Team) (earlier : Law) → IsPartOf (before_lost team) earlier → MakesGrow team earlier → RulesOver team earlier (lost team)
-lost_rules team earlier part grows = record {
+-- Lost marks are lost for good.
+lost_rules : (team : Team) → RulesOver team (before_lost team) (lost team)
+lost_rules team = record {
   nothing = tt;
   waits = λ past s w sound ok before k. tt;
   remains = λ past s w who p sound ok same before h own k. k;
   begins = λ past s w mode sound ok act more before k informed.
-      each_weaker (IsNamedLine past) (IsMarkedOrLost team w.makes (started s.who mode s.h)) w.lines (λ x named same early. absurd (none_of_started team past s mode ok act x named same)) (part.history past w before).0.0.0.1.named;
-  changes = λ past s here x y at mailed change before after k. changed team earlier part grows past s here x y at mailed before after k change;
+      each_weaker (IsNamedLine past) (IsMarkedOrLost team w.makes (started s.who mode s.h)) w.lines (λ x named same early. absurd (none_of_started team past s mode ok act x named same)) before.0.0.0.1.named;
+  changes = λ past s here x y at mailed change before after k. changed team past s here x y at before after k change;
 }
 
 -- ---- the laws, one on the other
 
--- the laws on groups, and that what is pending is settled
-adds_part : (team : Team) → IsPartOf (Both (of_groups team) pending) (Both (with_last team) pending)
-adds_part team = record { history = λ steps w k. (k.0.0.0.0.0.0.0.0, k.1); running = λ steps w who p k. (k.0.0.0.0.0.0.0.0, k.1) }
-
--- a law that rests on none rests on any
-over_any : (team : Team) (earlier law : Law) → LawRules team law → RulesOver team earlier law
-over_any team earlier law rules = rests_on team no_law earlier law (record { history = λ steps w k. tt; running = λ steps w who p k. tt }) rules
+-- the laws on groups are among these
+groups_part : (team : Team) → IsPartOf (of_groups team) (Both (with_last team) pending)
+groups_part team = record { history = λ steps w k. k.0.0.0.0.0.0.0.0; running = λ steps w who p k. k.0.0.0.0.0.0.0.0 }
 
 -- what the law rests on, of every schedule
-pub before_lost_too : (team : Team) → LawRules team (before_lost team)
+before_lost_too : (team : Team) → LawRules team (before_lost team)
 before_lost_too team = stack team (Both (with_last team) pending) (OfHistory AllAddOfSeats)
     (stack team (with_last team) pending (last_too team) (over_any team (with_last team) pending (pending_rules team)))
-    (rests_on team (Both (of_groups team) pending) (Both (with_last team) pending) (OfHistory AllAddOfSeats) (adds_part team) (seated_rules team))
+    (rests_on team (of_groups team) (Both (with_last team) pending) (OfHistory AllAddOfSeats) (groups_part team) (seated_rules team))
 
--- the law over just these
-pub lost_over : (team : Team) → MakesGrow team (before_lost team) → RulesOver team (before_lost team) (lost team)
-lost_over team = lost_rules team (before_lost team) (record { history = λ steps w k. k; running = λ steps w who p k. k })
+-- with it
+abbrev pub with_lost : Team → Law
+with_lost team = Both (before_lost team) (lost team)
+
+pub lost_too : (team : Team) → LawRules team (with_lost team)
+lost_too team = stack team (before_lost team) (lost team) (before_lost_too team) (lost_rules team)

@@ -1,9 +1,10 @@
 -- Where an update stands that waits at a process, when a list goes on: it waits still, is in the list's new part, or has no seat of its
 -- sender there.
 use Rattle.std.proofs.Common.{◌≡◌, ◌≢◌, refl, sym, ap, subst, ◌∙◌, inl, inr, ◌⊎◌, ℕ, zero, suc, ◌+◌, ◌≤◌, ◌<◌, nat_eq, nat_le, Bool, true, false, cond, List, [], ◌∷◌, ◌++◌, map, length, filter, filter_map, find, Option, Some, None, arith, length-append}
-use Rattle.std.specs.List.{range_with_len, cons_option}
+use Rattle.std.specs.List.{range_with_len}
 use Rattle.std.specs.Option.{option_map, option_map_or}
 use Rattle.std.proofs.lemmas.Bool.Decides.{nat_tests}
+use Rattle.std.proofs.lemmas.Bool.{false_from_ne_true}
 use Rattle.std.proofs.lemmas.Option.{same_Some}
 use Rattle.tw_types.specs.declared.message.Decision.{Decision}
 use Rattle.tw_types.specs.declared.message.Entry.{Entry}
@@ -24,20 +25,14 @@ use Rattle.safety_laws.specs.Lists.{seqs_of, GoByOne, IsListOf}
 use Rattle.safety_laws.specs.Pending.{IsAwaited, NoneTwice}
 use Rattle.safety_laws.proofs.EndLists.{same_id}
 use Rattle.safety_laws.proofs.FirstDecisions.{in_list_any, same_member, same_member_of}
-use Rattle.safety_laws.proofs.IdLists.{same_id_of}
-use Rattle.safety_laws.proofs.Lists.{of_each, each_from, of_append, found_in, any_found}
+use Rattle.safety_laws.proofs.IdLists.{same_id_of, one_id}
+use Rattle.safety_laws.proofs.Lists.{of_each, each_from, of_append, found_in, any_found, of_filter_map, in_range}
 use Rattle.safety_laws.proofs.NextDecisions.{any_in}
 use Rattle.safety_laws.proofs.WholeLists.{seqs_joined}
 
 -- ---- the numbers of a member in a list that goes by one
 
--- numbers from a on are not below a, and below the end
-in_range : (a n x : ℕ) → In x (range_with_len a n) → (a ≤ x) × (x < a + n)
-in_range a zero x i = absurd i
-in_range a (suc n) x (inl e) = (omega (arith, e), omega (arith, e))
-in_range a (suc n) x (inr i) = let k = in_range (a + 1) n x i in let low = k.0 in let high = k.1 in (omega (arith, low), omega (arith, high))
-
--- and all such are there
+-- each number from a on, below the end, is there
 range_in : (a n x : ℕ) → a ≤ x → x < a + n → In x (range_with_len a n)
 range_in a zero x low high = absurd (omega (arith, low, high))
 range_in a (suc n) x low high = go (nat_eq x a) refl (λ more. range_in (a + 1) n x more (omega (arith, high)))
@@ -45,13 +40,6 @@ range_in a (suc n) x low high = go (nat_eq x a) refl (λ more. range_in (a + 1) 
     go : (b : Bool) → nat_eq x a ≡ b → (a + 1 ≤ x → In x (range_with_len (a + 1) n)) → In x (a ∷ range_with_len (a + 1) n)
     go true e rest = inl (grind (arith, nat_tests))
     go false e rest = let other : a < x = grind (arith, nat_tests) in inr (rest (omega (arith, other)))
-
--- an id is told by its sender and its number
-id_by : (a b : UpdateId) → sender a ≡ sender b → a.seq ≡ b.seq → a ≡ b
-id_by a b from seq =
-    ap (λ (w : ℕ). record { who = w; incarnation = a.incarnation; seq = a.seq }) (ap (λ (m : Member). m.who) from)
-    ∙ ap (λ (i : ℕ). record { who = b.who; incarnation = i; seq = a.seq }) (ap (λ (m : Member). m.incarnation) from)
-    ∙ ap (λ (n : ℕ). record { who = b.who; incarnation = b.incarnation; seq = n }) seq
 
 -- an update's number isn't above how many its sender has there
 number_below : (list : List Kept) → GoByOne list → (k : Kept) → In k list → k.entry.id.seq ≤ length (seqs_of (sender k.entry.id) list)
@@ -70,7 +58,8 @@ has_number list by_one id low high =
     let there : In id.seq (seqs_of member list) = subst (In id.seq) (sym (by_one member)) (range_in 1 (length (seqs_of member list)) id.seq low (omega (arith, high))) in
     let k = of_map (λ (z : Kept). z.entry.id.seq) (filter (λ (z : Kept). is_same_member (sender z.entry.id) member) list) id.seq there in
     let f = of_filter (λ (z : Kept). is_same_member (sender z.entry.id) member) list k.0 k.1 in
-    (k.0, f.0, id_by k.0.entry.id id (same_member_of (sender k.0.entry.id) member f.1) (sym k.2))
+    let from = same_member_of (sender k.0.entry.id) member f.1 in
+    (k.0, f.0, one_id k.0.entry.id id (ap (λ (m : Member). m.who) from) (ap (λ (m : Member). m.incarnation) from) (sym k.2))
 
 -- ---- where a list goes on
 
@@ -81,7 +70,7 @@ longer member list rest whole is =
     omega (arith, joined)
 
 -- what is awaited behind a list isn't in it
-awaited_absent : (v : Make) → IsListOf v → (u : Kept) → IsAwaited v.making.decision u → IsAbsent u.entry.id v.log
+pub awaited_absent : (v : Make) → IsListOf v → (u : Kept) → IsAwaited v.making.decision u → IsAbsent u.entry.id v.log
 awaited_absent v whole u waits = each_from (λ (k : Kept). k.entry.id ≢ u.entry.id) v.log (λ k i same.
     let next : waits.seat.next ≡ 1 + length (seqs_of waits.seat.member v.log) = of_each (λ (s : Seat). s.next ≡ 1 + length (seqs_of s.member v.log)) v.making.decision.seats.items waits.seat whole.next waits.there in
     let few = number_below v.log whole.by_one k i in
@@ -104,11 +93,7 @@ none_absent id list none = each_from (λ (k : Kept). k.entry.id ≢ id) list (λ
 
 -- of no seat that is found
 no_seat : (member : Member) (d : Decision) → find (is_seat_of member) d.seats.items ≡ None → has_seat member d ≡ false
-no_seat member d none = go (has_seat member d) refl
-  where
-    go : (b : Bool) → has_seat member d ≡ b → b ≡ false
-    go true e = absurd (any_found (is_seat_of member) d.seats.items e none)
-    go false e = refl
+no_seat member d none = false_from_ne_true (has_seat member d) (λ e. any_found (is_seat_of member) d.seats.items e none)
 
 -- Where a made decision's list goes on that of another one, all that waits by that one comes to one of these ends.
 pub settles : (v d : Make) → IsListOf v → IsListOf d → (rest : List Kept) → d.log ≡ v.log ++ rest → (u : Kept) → IsAwaited v.making.decision u → AfterAll d rest u
@@ -164,16 +149,6 @@ found_pending (k ∷ pending) others u once (inl e) =
 found_pending (k ∷ pending) others u once (inr i) =
     let named : is_named u.entry.id k ≡ false = of_each (λ (other : Kept). is_same_id k.entry.id other.entry.id ≡ false) pending u once.0 i in
     ap (λ b. cond b (Some k) (find_update u.entry.id (pending ++ others))) named ∙ found_pending pending others u once.1 i
-
--- what comes of some items is of one of them
-pub of_filter_map : {X Y : Type 0} (f : X → Option Y) (xs : List X) (y : Y) → In y (filter_map f xs) → (x : X) × In x xs × (f x ≡ Some y)
-of_filter_map f [] y i = absurd i
-of_filter_map {X} {Y} f (x ∷ xs) y i = go (f x) refl (of_filter_map f xs y) i
-  where
-    go : (o : Option Y) → f x ≡ o → (In y (filter_map f xs) → (z : X) × In z xs × (f z ≡ Some y)) → In y (cons_option o (filter_map f xs)) → (z : X) × In z (x ∷ xs) × (f z ≡ Some y)
-    go None is rest i = let k = rest i in (k.0, inr k.1, k.2)
-    go (Some w) is rest (inl e) = (x, inl refl, is ∙ ap Some (sym e))
-    go (Some w) is rest (inr i) = let k = rest i in (k.0, inr k.1, k.2)
 
 -- A pending update's mark goes with it into the list.
 pub mark_comes : (pending others : List Kept) (es : List Entry) (u : Kept) → NoneTwice pending → In u pending → u.early ≡ true → (k : Kept) → In k (map unmarked (filter_map (entry_joined (pending ++ others)) es)) → k.entry.id ≡ u.entry.id

@@ -1,8 +1,8 @@
 -- What is lost stays lost when a decision is made.
 use Rattle.std.proofs.Common.{◌≡◌, refl, sym, ap, subst, ◌∙◌, ◌⊎◌, inl, inr, ℕ, suc, ◌≤◌, ◌<◌, Bool, true, false, List, ◌∷◌, Option, Some, None, is_some, arith}
-use Rattle.std.specs.List.{AllByRecursion}
 use Rattle.std.proofs.lemmas.Bool.{cases_lt}
 use Rattle.std.proofs.lemmas.Option.{same_Some}
+use Rattle.std.proofs.Math.Logic.{⊎_map}
 use Rattle.tw_types.specs.declared.team.Team.{Team}
 use Rattle.tw_types.specs.declared.message.Decision.{Decision}
 use Rattle.tw_types.specs.declared.message.Kept.{Kept}
@@ -17,47 +17,33 @@ use Rattle.tw_types.specs.Items.{In}
 use Rattle.tw_types.specs.Process.{Process}
 use Rattle.tw_types.specs.Reports.{is_by_informed, is_consistent}
 use Rattle.tw_types.specs.Updates.{sender}
-use Rattle.tw_machine.specs.History.{Promised, Make, Line, make_item, list_of}
+use Rattle.tw_machine.specs.History.{Promised, Make, make_item, list_of}
 use Rattle.tw_machine.specs.Standing.{member_of}
 use Rattle.tw_machine.proofs.Tables.{all_joined}
-use Rattle.safety_laws.specs.Early.{is_early, IsMarked, IsAbsent, IsLostIn, IsLost, IsMarkedOrLost, lost}
+use Rattle.safety_laws.specs.Early.{IsAbsent, IsLostIn, IsLost, lost}
 use Rattle.safety_laws.specs.Effects.{Written, State, Here, Makes}
 use Rattle.safety_laws.specs.Groups.{HasMajority, OfGroups, OfMember}
 use Rattle.safety_laws.specs.Lists.{AreLists}
-use Rattle.safety_laws.specs.Made.{WasMade, WasMadeIfAny, members, IsNotOlder, WasReported, TellsLast, TellsDecision, ComesFrom, Arises, AsFirst, AsNext, AllArise, IsBeginOf}
-use Rattle.safety_laws.specs.Once.{SamePair, AllOnce}
+use Rattle.safety_laws.specs.Made.{WasMade, WasMadeIfAny, IsNotOlder, WasReported, TellsLast, TellsDecision, ComesFrom, Arises, AsFirst, AsNext, IsBeginOf}
+use Rattle.safety_laws.specs.Once.{SamePair}
 use Rattle.safety_laws.specs.Overtaken.{IsOvertaken}
 use Rattle.safety_laws.specs.Reported.{IsSeated, IsInformedPromise, AreReports}
 use Rattle.safety_laws.specs.Still.{SaysTheSame}
 use Rattle.safety_laws.proofs.AddedBy.{IsAddedBy, AddsOfMembers, added_by}
 use Rattle.safety_laws.proofs.Ballots.{not_older_group}
-use Rattle.safety_laws.proofs.BeginLists.{same_or_below, seat_of_members, seated_below}
+use Rattle.safety_laws.proofs.BeginLists.{same_or_below, seated_below}
 use Rattle.safety_laws.proofs.Begun.{before_beginnings}
 use Rattle.safety_laws.proofs.FirstDecisions.{same_member_of}
+use Rattle.safety_laws.proofs.Groups.{seat_of_members, seat_in_each}
 use Rattle.safety_laws.proofs.Lists.{of_each, each_from}
 use Rattle.safety_laws.proofs.ListsAt.{agree_at}
-use Rattle.safety_laws.proofs.MadeLists.{viewed, last_made}
+use Rattle.safety_laws.proofs.MadeLists.{viewed, last_made, some_last}
 use Rattle.safety_laws.proofs.NextDecisions.{any_in}
 use Rattle.safety_laws.proofs.Overtaken.{earlier_in, supported_more, overtaken_still, overtaken_at}
 use Rattle.safety_laws.proofs.Prefixes.{HaveLists, listed, group_list, list_of_made}
 use Rattle.safety_laws.proofs.Quorums.{Binds, majority_binds}
 use Rattle.safety_laws.proofs.Stack.{Stepping}
-use Rattle.safety_laws.proofs.Turns.{first_of_make, first_of_made, once_same}
-
--- ---- members of a group
-
-module _ (team : Team) (promises : List Promised) (makes : List Make) (arise : AllArise team promises makes) (once : AllOnce makes) where
-  -- Decisions of one group have one list of members,
-  one_list : (a b : Decision) → WasMade makes a → WasMade makes b → a.group ≡ b.group → members a ≡ members b
-  one_list a b i j same =
-      let f = first_of_made team promises makes arise a i in
-      let g = first_of_made team promises makes arise b j in
-      let one : f.0 ≡ g.0 = once_same makes once f.0 g.0 f.1 g.1 (f.2.begins.group_is ∙ same ∙ sym g.2.begins.group_is, f.2.begins.turn ∙ sym g.2.begins.turn) in
-      sym f.2.same_members ∙ ap (λ (z : Make). members z.making.decision) one ∙ g.2.same_members
-
-  -- so who has a seat in one has one in each.
-  pub seat_in_each : (a b : Decision) → WasMade makes a → WasMade makes b → a.group ≡ b.group → (member : Member) → has_seat member a ≡ true → has_seat member b ≡ true
-  seat_in_each a b i j same member seat = seat_of_members b a member (one_list b a j i (sym same)) seat
+use Rattle.safety_laws.proofs.Turns.{first_of_make, first_of_made}
 
 -- ---- a make more
 
@@ -203,7 +189,9 @@ module _ (team : Team) (steps : List Step) (w : Written) (known_then : OfGroups 
     -- what a process lost is lost in it: what it stands on isn't below the process's last decision, and names the process
     lost_new : (who : ℕ) (p : Process) → OfMember team steps w who p → 1 ≤ (or_none (last_of p.belief)).group → (id : UpdateId) → IsLost team older p id
         → (or_none (last_of p.belief)).group ≤ new.making.decision.group → has_seat (member_of p.identity) new.making.decision ≡ true → IsLostIn team more id new
-    lost_new who p mine some id lost low seat = by_last (last_of p.belief) refl
+    lost_new who p mine some id lost low seat =
+        let last = some_last (last_of p.belief) some in
+        by_group last.0 last.1 (same_or_below last.0.group new.making.decision.group (subst (λ (o : Option Decision). (or_none o).group ≤ new.making.decision.group) last.1 low))
       where
         x : IsOfMember (member_of p.identity)
         x = of_member (member_of p.identity) seat
@@ -235,10 +223,6 @@ module _ (team : Team) (steps : List Step) (w : Written) (known_then : OfGroups 
         by_group d is (inl same) = let was = last_made older p d mine.maker.keeps is in absurd (not_made begins was.0 was.1 (ap (λ (z : Decision). z.group) was.2 ∙ same))
         by_group d is (inr below) = still d is below
 
-        by_last : (o : Option Decision) → last_of p.belief ≡ o → IsLostIn team more id new
-        by_last None is = absurd (let none = ap (λ (o : Option Decision). (or_none o).group) is in omega (arith, none, some))
-        by_last (Some d) is = by_group d is (same_or_below d.group new.making.decision.group (subst (λ (o : Option Decision). (or_none o).group ≤ new.making.decision.group) is low))
-
   -- ---- an older group
 
   module _ (added : AddsOfMembers team new) (id : UpdateId) (c : Make) (i : In c older) (begins : c.making.decision.turn ≡ 0) (k : IsLostIn team older id c) where
@@ -268,13 +252,9 @@ module _ (team : Team) (steps : List Step) (w : Written) (known_then : OfGroups 
     absent (AsFirst first comes) same = absurd (not_made first c i (sym same))
     absent (AsNext last f) same = next_absent last f.before f.was_made (sym f.group ∙ same)
 
-    still_out : (has_seat (sender id) c.making.decision ≡ false) ⊎ IsOvertaken team older c → (has_seat (sender id) c.making.decision ≡ false) ⊎ IsOvertaken team more c
-    still_out (inl out) = inl out
-    still_out (inr late) = inr (overtaken_still team new older c late)
-
     -- what is lost in it stays so: what the new one adds is of members, and a majority supports what it is added to
     lost_old : IsLostIn team more id c
-    lost_old = record { absent = (absent known_now.makes.arise.0, k.absent); sender_out = still_out k.sender_out }
+    lost_old = record { absent = (absent known_now.makes.arise.0, k.absent); sender_out = ⊎_map (λ out. out) (overtaken_still team new older c) k.sender_out }
 
   -- ---- all groups
 
@@ -300,22 +280,10 @@ module _ (team : Team) (past : List Step) (s : Step) (here : Here) (x y : State)
   new_one = make_item (member_of x.process.identity) here.life here.step x.written.makes c.making
 
   -- What a process lost, before it takes the new decision if it made that, is lost with it: where it took a decision before.
-  pub lost_still : 1 ≤ (or_none (last_of p.belief)).group → (id : UpdateId) → IsLost team x.written.makes p id → IsLost team y.written.makes p id
+  pub made_lost : 1 ≤ (or_none (last_of p.belief)).group → (id : UpdateId) → IsLost team x.written.makes p id → IsLost team y.written.makes p id
   unfolding new_one
-  lost_still some id lost = subst (λ (w : Written). IsLost team w.makes p id) (sym c.written)
+  made_lost some id lost = subst (λ (w : Written). IsLost team w.makes p id) (sym c.written)
       (lost_with_new team (s ∷ past) x.written before.0.0.0.0 before.0.1 new_one (subst (OfGroups team (s ∷ past)) known after.0.0.0.0) (subst (λ (w : Written). AreLists w.makes) known after.1) (added_by team past s here x y at c) who p mine some id lost)
     where
       known : y.written ≡ record (x.written) { makes = new_one ∷ x.written.makes }
       known = c.written
-
-  -- so all that went early at it is marked or lost still
-  pub lines_still : ((line : Line) → In line x.written.lines → line.member ≡ member_of p.identity → is_early line.delivered.place ≡ true → 1 ≤ (or_none (last_of p.belief)).group)
-      → (lost team).Running (s ∷ past) x.written who p → (lost team).Running (s ∷ past) y.written who p
-  lines_still some k informed = subst (λ (w : Written). AllByRecursion (IsMarkedOrLost team y.written.makes p) w.lines) (sym c.written)
-      (each_from (IsMarkedOrLost team y.written.makes p) x.written.lines (λ line i same early.
-      go line (some line i same early) (of_each (IsMarkedOrLost team x.written.makes p) x.written.lines line (k informed) i same early)))
-    where
-      go : (line : Line) → 1 ≤ (or_none (last_of p.belief)).group → IsMarked p line.delivered.update.entry.id ⊎ IsLost team x.written.makes p line.delivered.update.entry.id
-          → IsMarked p line.delivered.update.entry.id ⊎ IsLost team y.written.makes p line.delivered.update.entry.id
-      go line some (inl marked) = inl marked
-      go line some (inr gone) = inr (lost_still some line.delivered.update.entry.id gone)

@@ -1,6 +1,7 @@
 -- What becomes of marks when a process enters a decision: what waits with a mark waits still, or is in the list with it, or is lost for
 -- good.
-use Rattle.std.proofs.Common.{◌≡◌, ◌≢◌, refl, sym, ap, subst, ◌∙◌, inl, inr, ◌⊎◌, ℕ, zero, suc, ◌≤◌, ◌<◌, Bool, true, false, List, ◌++◌, map, filter_map, Option, Some, arith}
+use Rattle.std.proofs.Common.{◌≡◌, ◌≢◌, refl, sym, ap, subst, ◌∙◌, inl, inr, ◌⊎◌, ℕ, zero, suc, ◌≤◌, ◌<◌, true, false, List, ◌++◌, map, filter_map, Option, Some, arith}
+use Rattle.std.proofs.lemmas.Bool.{false_from_ne_true}
 use Rattle.std.proofs.lemmas.List.{map-append}
 use Rattle.tw_types.specs.declared.team.Team.{Team}
 use Rattle.tw_types.specs.declared.message.Decision.{Decision}
@@ -24,16 +25,16 @@ use Rattle.safety_laws.specs.Early.{IsMarked, IsAbsent, IsLost}
 use Rattle.safety_laws.specs.Effects.{Written}
 use Rattle.safety_laws.specs.Groups.{OfGroups, OfMember}
 use Rattle.safety_laws.specs.Lists.{AreLists, IsListOf}
-use Rattle.safety_laws.specs.Made.{WasMade, members}
+use Rattle.safety_laws.specs.Made.{WasMade}
 use Rattle.safety_laws.specs.Pending.{IsAwaited, IsSettled}
 use Rattle.safety_laws.specs.Seated.{AddsOfSeats, AllAddOfSeats}
-use Rattle.safety_laws.proofs.BeginLists.{seat_of_members}
 use Rattle.safety_laws.proofs.Begun.{have_lists, no_group_above}
+use Rattle.safety_laws.proofs.Groups.{seat_in_each}
 use Rattle.safety_laws.proofs.HasLine.{last_positive}
 use Rattle.safety_laws.proofs.Lists.{of_each, each_from, each_weaker, in_first, in_last, of_append}
 use Rattle.safety_laws.proofs.LostLists.{AfterAll, Waits, Comes, Loses, settles, mark_comes}
 use Rattle.safety_laws.proofs.Prefixes.{HaveLists, next_of, extend}
-use Rattle.safety_laws.proofs.Turns.{once_same, first_of_make}
+use Rattle.safety_laws.proofs.Turns.{once_same}
 
 -- what is known of all that was written down
 pub record KnowsMakes (team : Team) (steps : List Step) (w : Written) : Type 0 where
@@ -46,22 +47,10 @@ module _ (team : Team) (steps : List Step) (w : Written) (known : KnowsMakes tea
   lists : HaveLists team w.promises w.makes
   lists = have_lists team steps w known.groups known.lists
 
-  -- makes of one group have one list of members
-  seat_in_group : (a b : Make) → In a w.makes → In b w.makes → a.making.decision.group ≡ b.making.decision.group → (id : UpdateId) → has_seat (sender id) a.making.decision ≡ true → has_seat (sender id) b.making.decision ≡ true
-  seat_in_group a b i j group id =
-      let first = first_of_make team w.promises w.makes known.groups.makes.arise a i in
-      let other = first_of_make team w.promises w.makes known.groups.makes.arise b j in
-      let one : other.0 ≡ first.0 = once_same w.makes known.groups.once other.0 first.0 other.1 first.1
-      (other.2.begins.group_is ∙ sym group ∙ sym first.2.begins.group_is, other.2.begins.turn ∙ sym first.2.begins.turn) in
-      seat_of_members b.making.decision a.making.decision (sender id) (sym other.2.same_members ∙ ap (λ (z : Make). members z.making.decision) one ∙ first.2.same_members)
-
-  -- so who has none in one has none in another
+  -- who has no seat in one make of a group has none in another
   no_seat_in_group : (a b : Make) → In a w.makes → In b w.makes → a.making.decision.group ≡ b.making.decision.group → (id : UpdateId) → has_seat (sender id) b.making.decision ≡ false → has_seat (sender id) a.making.decision ≡ false
-  no_seat_in_group a b i j group id none = go (has_seat (sender id) a.making.decision) refl
-    where
-      go : (t : Bool) → has_seat (sender id) a.making.decision ≡ t → t ≡ false
-      go true e = let some = seat_in_group a b i j group id e in cc
-      go false e = refl
+  no_seat_in_group a b i j group id none = false_from_ne_true (has_seat (sender id) a.making.decision)
+      (λ e. let some = seat_in_each team w.promises w.makes known.groups.makes.arise known.groups.once a.making.decision b.making.decision (a, i, refl) (b, j, refl) group (sender id) e in cc)
 
   -- ---- a group that an update doesn't come into
 
@@ -91,7 +80,7 @@ module _ (team : Team) (steps : List Step) (w : Written) (known : KnowsMakes tea
 
   -- An update that isn't in the list of a process's last decision, which has no seat of its sender, is lost for the process, if that
   -- decision is of the group that it promised.
-  pub lost_by : (who : ℕ) (q : Process) (d : Decision) → OfMember team steps w who q → last_of q.belief ≡ Some d → d.group ≡ q.vote.promised → (was : WasMade w.makes d)
+  lost_by : (who : ℕ) (q : Process) (d : Decision) → OfMember team steps w who q → last_of q.belief ≡ Some d → d.group ≡ q.vote.promised → (was : WasMade w.makes d)
       → (id : UpdateId) → has_seat (sender id) was.0.making.decision ≡ false → IsAbsent id was.0.log → IsLost team w.makes q id
   lost_by who q d mine last group was id none absent = each_from _ w.makes (λ c i first low seat.
       let positive = last_positive team steps w who q d known.groups mine last in

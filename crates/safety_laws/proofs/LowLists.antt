@@ -24,7 +24,7 @@ use Rattle.tw_types.specs.Ranges.{Distinct}
 use Rattle.tw_types.specs.Reports.{is_consistent}
 use Rattle.tw_types.specs.Turns.{supported, acks, least, raised_low, next_decision}
 use Rattle.tw_types.specs.Updates.{has_update}
-use Rattle.tw_types.proofs.Appended.{in_map}
+use Rattle.tw_types.proofs.Appended.{in_map, of_filter}
 use Rattle.tw_types.proofs.Lists.{all_parted}
 use Rattle.tw_machine.specs.History.{Promised, Make}
 use Rattle.tw_machine.proofs.Tables.{all_mapped}
@@ -33,7 +33,7 @@ use Rattle.group_maker.proofs.Ranges.{all_kept, distinct_kept, own_report}
 use Rattle.group_maker.proofs.Fitting.{owner_low}
 use Rattle.safety_laws.specs.Made.{WasMade, Follows, ComesFrom, AllArise}
 use Rattle.safety_laws.proofs.Counting.{IsMajority}
-use Rattle.safety_laws.proofs.FirstDecisions.{all_mapped_from, same_member_of, in_filtered, none_present, over_found}
+use Rattle.safety_laws.proofs.FirstDecisions.{all_mapped_from, same_member_of, none_present, over_found}
 use Rattle.safety_laws.proofs.Groups.{are_majority}
 use Rattle.safety_laws.proofs.Lists.{of_each, each_weaker, found_in}
 use Rattle.safety_laws.proofs.NextDecisions.{in_changed, least_below, told_ack}
@@ -67,11 +67,11 @@ low_kept low end seats below s i has = go (list_all (λ (z : Seat). is_some z.su
 -- ---- a next decision
 
 -- no seat says more than there is
-abbrev pub SaysAtMost : ℕ → Seat → Type 0
+abbrev SaysAtMost : ℕ → Seat → Type 0
 SaysAtMost end s = (support : Support) → s.support ≡ Some support → support.ack ≤ end
 
 -- in no make
-pub acks_within : (team : Team) (promises : List Promised) (makes : List Make) → AllArise team promises makes → AllByRecursion (λ (m : Make). AllByRecursion (SaysAtMost (decision_length m.making.decision)) m.making.decision.seats.items) makes
+acks_within : (team : Team) (promises : List Promised) (makes : List Make) → AllArise team promises makes → AllByRecursion (λ (m : Make). AllByRecursion (SaysAtMost (decision_length m.making.decision)) m.making.decision.seats.items) makes
 acks_within team promises = along_turns team promises (λ (m : Make). AllByRecursion (SaysAtMost (decision_length m.making.decision)) m.making.decision.seats.items) first next
   where
     first : (older : List Make) (m : Make) → m.making.decision.turn ≡ 0 → ComesFrom team promises older m → AllByRecursion (SaysAtMost (decision_length m.making.decision)) m.making.decision.seats.items
@@ -173,7 +173,7 @@ pub record IsOwnReport (team : Team) (b : Ballot) (me : Member) (t : ℕ) (r : R
 pub own_low : (team : Team) (b : Ballot) (me : Member) (t : ℕ) → AllByRecursion (λ (r : Report). r.member.who < team.n) b.reports.items → Distinct b.reports.items → list_any (λ (r : Report). is_same_member r.member me) (consistent b) ≡ true
     → (r : Report) × IsOwnReport team b me t r
 own_low team b me t below apart there =
-    let among = in_filtered (is_consistent b.best) b.reports.items own.0 (found_in (λ (r : Report). nat_eq r.member.who me.who) cs own.0 own.1).0 in (
+    let among = of_filter (is_consistent b.best) b.reports.items own.0 (found_in (λ (r : Report). nat_eq r.member.who me.who) cs own.0 own.1).0 in (
       own.0,
       record {
         there = among.0;

@@ -64,7 +64,7 @@ module _ (team : Team) (past : List Step) (s : Step) (here : Here) (x y : State)
 
   -- ---- what is received
 
-  pub carried_by_mail : (d : Datagram) → here.mail ≡ Some d → WasMadeIfAny x.written.makes (carried d.body)
+  carried_by_mail : (d : Datagram) → here.mail ≡ Some d → WasMadeIfAny x.written.makes (carried d.body)
   carried_by_mail d is =
       let got = mailed d is in
       subst (λ (z : Datagram). WasMadeIfAny x.written.makes (carried z.body)) got.2 (of_each (λ (z : Dispatch). WasMadeIfAny x.written.makes (carried z.datagram.body)) x.written.sent got.0 k.history.carried_made got.1)
@@ -160,9 +160,6 @@ module _ (team : Team) (past : List Step) (s : Step) (here : Here) (x y : State)
           by_kind is = rw is refl
 
   -- ---- a make
-
-  new_make : Makes here x y → items.Make
-  new_make c = make_item (member_of x.process.identity) here.life here.step x.written.makes c.making
 
   next_follows : (c : Makes here x y) → (entries : List Entry) → (appended : List Kept) → map (λ (u : Kept). u.entry) appended ≡ entries → (last : Decision) → last_decision x.process ≡ Some last → is_turn here.team (member_of x.process.identity) (Some last) x.process.vote.promised c.t ≡ true
       → c.making ≡ next_making last appended (next_decision entries last c.t x.process.identity.who) → Follows x.written.makes (make_item (member_of x.process.identity) here.life here.step x.written.makes c.making) last

@@ -1,7 +1,7 @@
 -- What the `made` lines of rows tell of groups, where the rows print just the makes of a list in which each pair is made once.
-use Rattle.std.proofs.Common.{◌≡◌, ◌≢◌, refl, sym, ap, subst, ◌∙◌, inl, inr, ℕ, zero, suc, ◌≤◌, ◌==◌, Bool, true, false, cond, List, [], ◌∷◌, filter, find, Option, Some, None, slice_get, arith}
+use Rattle.std.proofs.Common.{◌≡◌, ◌≢◌, refl, sym, ap, ◌∙◌, ℕ, ◌≤◌, ◌==◌, true, false, List, [], Option, Some, None, arith}
 use Rattle.std.specs.Prelude.{nat_le}
-use Rattle.std.specs.List.{filter_map, cons_option}
+use Rattle.std.specs.List.{filter_map}
 use Rattle.std.specs.Option.{unwrap_or, option_map}
 use Rattle.std.proofs.lemmas.Bool.Decides.{nat_tests}
 use Rattle.std.proofs.lemmas.Option.{same_Some}
@@ -18,74 +18,14 @@ use Rattle.tw_machine.specs.Started.{makings, making_of, members_of, has_started
 use Rattle.tw_machine.specs.World.{Admissible}
 use Rattle.tw_machine.proofs.Started.{started_is_greatest, none_has_started}
 use Rattle.tw_types.specs.Items.{In}
+use Rattle.tw_types.proofs.Appended.{in_filter, of_filter}
 use Rattle.safety_laws.specs.Made.{WasMade, AllArise, members, Begins}
 use Rattle.safety_laws.specs.Once.{AllOnce}
 use Rattle.safety_laws.specs.Seen.{IsMadeLineOf}
+use Rattle.safety_laws.proofs.Lists.{found_in, finds, of_filter_map, in_filter_map}
+use Rattle.safety_laws.proofs.Places.{at_in, place_of}
 use Rattle.safety_laws.proofs.Turns.{once_same, first_of_made}
 use Rattle.safety_laws.proofs.Seen.{made_lines_seen, makes_printed}
-
--- ---- lists
-
--- what is found stands there and passes
-found_at : {X : Type 0} (t : X → Bool) (xs : List X) (y : X) → find t xs ≡ Some y → In y xs × (t y ≡ true)
-found_at t [] y e = absurd (cc)
-found_at {X} t (x ∷ xs) y e = go (t x) refl e (found_at t xs y)
-  where
-    go : (b : Bool) → t x ≡ b → cond b (Some x) (find t xs) ≡ Some y → (find t xs ≡ Some y → In y xs × (t y ≡ true)) → In y (x ∷ xs) × (t y ≡ true)
-    go true test e rest = let same : x ≡ y = same_Some x y e in (inl (sym same), subst (λ z. t z ≡ true) same test)
-    go false test e rest = let r = rest e in (inr r.0, r.1)
-
--- where one stands that passes one is found
-finds : {X : Type 0} (t : X → Bool) (xs : List X) (y : X) → In y xs → t y ≡ true → (z : X) × (find t xs ≡ Some z)
-finds t [] y i test = absurd i
-finds {X} t (x ∷ xs) y i test = go (t x) refl i (λ j. finds t xs y j test)
-  where
-    go : (b : Bool) → t x ≡ b → In y (x ∷ xs) → (In y xs → (z : X) × (find t xs ≡ Some z)) → (z : X) × (cond b (Some x) (find t xs) ≡ Some z)
-    go true e i rest = (x, refl)
-    go false e (inl same) rest = absurd (let yes : t x ≡ true = subst (λ z. t z ≡ true) same test in cc)
-    go false e (inr j) rest = rest j
-
-filter_has : {X : Type 0} (t : X → Bool) (xs : List X) (y : X) → In y (filter t xs) → In y xs × (t y ≡ true)
-filter_has t [] y i = absurd i
-filter_has {X} t (x ∷ xs) y i = go (t x) refl i (filter_has t xs y)
-  where
-    go : (b : Bool) → t x ≡ b → In y (cond b (x ∷ filter t xs) (filter t xs)) → (In y (filter t xs) → In y xs × (t y ≡ true)) → In y (x ∷ xs) × (t y ≡ true)
-    go true test (inl same) rest = (inl same, subst (λ z. t z ≡ true) (sym same) test)
-    go true test (inr j) rest = let r = rest j in (inr r.0, r.1)
-    go false test j rest = let r = rest j in (inr r.0, r.1)
-
-filter_holds : {X : Type 0} (t : X → Bool) (xs : List X) (y : X) → In y xs → t y ≡ true → In y (filter t xs)
-filter_holds t [] y i test = absurd i
-filter_holds {X} t (x ∷ xs) y i test = go (t x) refl i (λ j. filter_holds t xs y j test)
-  where
-    go : (b : Bool) → t x ≡ b → In y (x ∷ xs) → (In y xs → In y (filter t xs)) → In y (cond b (x ∷ filter t xs) (filter t xs))
-    go true e (inl same) rest = inl same
-    go true e (inr j) rest = inr (rest j)
-    go false e (inl same) rest = absurd (let yes : t x ≡ true = subst (λ z. t z ≡ true) same test in cc)
-    go false e (inr j) rest = rest j
-
--- a line among the rows is that of a row
-line_has : (rows : List Row) (line : Made) → In line (filter_map (λ (r : Row). r.made) rows) → Exists rows (λ i r. r.made ≡ Some line)
-line_has [] line i = absurd i
-line_has (r ∷ rows) line i = go r.made refl i (line_has rows line)
-  where
-    later : Exists rows (λ i q. q.made ≡ Some line) → Exists (r ∷ rows) (λ i q. q.made ≡ Some line)
-    later x = (suc x.0, x.1, x.2, x.3)
-
-    go : (o : Option Made) → r.made ≡ o → In line (cons_option o (filter_map (λ (r : Row). r.made) rows))
-        → (In line (filter_map (λ (r : Row). r.made) rows) → Exists rows (λ i q. q.made ≡ Some line)) → Exists (r ∷ rows) (λ i q. q.made ≡ Some line)
-    go None e j rest = later (rest j)
-    go (Some y) e (inl same) rest = (0, r, refl, e ∙ ap Some (sym same))
-    go (Some y) e (inr j) rest = later (rest j)
-
-line_holds : (rows : List Row) (line : Made) (i : ℕ) (r : Row) → slice_get rows i ≡ Some r → r.made ≡ Some line → In line (filter_map (λ (r : Row). r.made) rows)
-line_holds [] line i r at is = absurd (cc)
-line_holds (q ∷ rows) line zero r at is = let same : q ≡ r = same_Some q r at in let first : q.made ≡ Some line = rw same is in rw first (inl refl)
-line_holds (q ∷ rows) line (suc i) r at is = go q.made (line_holds rows line i r at is)
-  where
-    go : (o : Option Made) → In line (filter_map (λ (r : Row). r.made) rows) → In line (cons_option o (filter_map (λ (r : Row). r.made) rows))
-    go None j = j
-    go (Some y) j = inr j
 
 -- ---- the lines
 
@@ -101,29 +41,30 @@ module _ (rows : List Row) (makes : List Make) (printed : ArePrinted rows makes)
   -- a line that makes a group is that of a make that begins it
   line_is_make : (line : Made) → In line (makings rows) → (k : Make) × In k makes × (line ≡ made_printed k.making.decision) × (k.making.decision.turn ≡ 0)
   line_is_make line i =
-      let two = filter_has (λ (m : Made). m.turn == 0) (filter_map (λ (r : Row). r.made) rows) line i in
-      let row = line_has rows line two.0 in
-      let has : row.1.made ≢ None = λ e. (let no : Some line ≡ None = sym row.3 ∙ e in cc) in
-      let k = printed.each_line row.0 row.1 row.2 has in
-      let same : line ≡ made_printed k.0.making.decision = same_Some line (made_printed k.0.making.decision) (sym row.3 ∙ k.2.line) in
+      let two = of_filter (λ (m : Made). m.turn == 0) (filter_map (λ (r : Row). r.made) rows) line i in
+      let row = of_filter_map (λ (r : Row). r.made) rows line two.0 in
+      let at = place_of rows row.0 row.1 in
+      let has : row.0.made ≢ None = λ e. (let no : Some line ≡ None = sym row.2 ∙ e in cc) in
+      let k = printed.each_line at.0 row.0 at.1 has in
+      let same : line ≡ made_printed k.0.making.decision = same_Some line (made_printed k.0.making.decision) (sym row.2 ∙ k.2.line) in
       let zero_turn : line.turn ≡ 0 = (let test = two.1 in grind (arith, nat_tests)) in
       (k.0, k.1, same, sym (ap (λ (m : Made). m.turn) same) ∙ zero_turn)
 
   make_is_line : (k : Make) → In k makes → k.making.decision.turn ≡ 0 → In (made_printed k.making.decision) (makings rows)
   make_is_line k i first =
       let row = printed.each_make k i in
-      filter_holds (λ (m : Made). m.turn == 0) (filter_map (λ (r : Row). r.made) rows) (made_printed k.making.decision) (line_holds rows (made_printed k.making.decision) row.0 row.1 row.2 row.3.line) (grind (arith, nat_tests))
+      in_filter (λ (m : Made). m.turn == 0) (filter_map (λ (r : Row). r.made) rows) (made_printed k.making.decision) (in_filter_map (λ (r : Row). r.made) rows row.1 (made_printed k.making.decision) (at_in rows row.0 row.1 row.2) row.3.line) (grind (arith, nat_tests))
 
   -- The line that makes a group is of a make that begins it.
-  pub make_of_line : (group : ℕ) (line : Made) → making_of rows group ≡ Some line → (k : Make) × In k makes × Begins group k × (line ≡ made_printed k.making.decision)
+  make_of_line : (group : ℕ) (line : Made) → making_of rows group ≡ Some line → (k : Make) × In k makes × Begins group k × (line ≡ made_printed k.making.decision)
   make_of_line group line e =
-      let two = found_at (λ (m : Made). m.group == group) (makings rows) line e in
+      let two = found_in (λ (m : Made). m.group == group) (makings rows) line e in
       let k = line_is_make line two.0 in
       let same : line.group ≡ group = (let test = two.1 in grind (arith, nat_tests)) in
       (k.0, k.1, record { group_is = sym (ap (λ (m : Made). m.group) k.2) ∙ same; turn = k.3 }, k.2)
 
   -- And the line of such a make is the one that makes the group, where each pair is made once.
-  pub line_of_make : AllOnce makes → (group : ℕ) (k : Make) → In k makes → Begins group k → making_of rows group ≡ Some (made_printed k.making.decision)
+  line_of_make : AllOnce makes → (group : ℕ) (k : Make) → In k makes → Begins group k → making_of rows group ≡ Some (made_printed k.making.decision)
   line_of_make once group k i begins =
       let test : ((made_printed k.making.decision).group == group) ≡ true = (let same = begins.group_is in grind (arith, nat_tests)) in
       let line = finds (λ (m : Made). m.group == group) (makings rows) (made_printed k.making.decision) (make_is_line k i begins.turn) test in
@@ -131,14 +72,14 @@ module _ (rows : List Row) (makes : List Make) (printed : ArePrinted rows makes)
       let same : other.0 ≡ k = once_same makes once other.0 k other.1 i (other.2.group_is ∙ sym begins.group_is, other.2.turn ∙ sym begins.turn) in
       line.1 ∙ ap Some (other.3 ∙ ap (λ (m : Make). made_printed m.making.decision) same)
 
-  pub members_of_make : AllOnce makes → (group : ℕ) (k : Make) → In k makes → Begins group k → members_of rows group ≡ members k.making.decision
+  members_of_make : AllOnce makes → (group : ℕ) (k : Make) → In k makes → Begins group k → members_of rows group ≡ members k.making.decision
   members_of_make once group k i begins = ap (λ (o : Option Made). unwrap_or (option_map (λ (m : Made). m.members) o) []) (line_of_make once group k i begins)
 
-  pub start_of_make : AllOnce makes → (group reading : ℕ) (k : Make) → In k makes → Begins group k → has_started rows reading group ≡ nat_le k.making.decision.start reading
+  start_of_make : AllOnce makes → (group reading : ℕ) (k : Make) → In k makes → Begins group k → has_started rows reading group ≡ nat_le k.making.decision.start reading
   start_of_make once group reading k i begins = ap (λ (o : Option Made). unwrap_or (option_map (λ (m : Made). nat_le m.start reading) o) false) (line_of_make once group k i begins)
 
   -- a group that has started has a make that begins it, with its start
-  pub make_of_started : (group reading : ℕ) → has_started rows reading group ≡ true → (k : Make) × In k makes × Begins group k × (k.making.decision.start ≤ reading)
+  make_of_started : (group reading : ℕ) → has_started rows reading group ≡ true → (k : Make) × In k makes × Begins group k × (k.making.decision.start ≤ reading)
   make_of_started group reading e = go (making_of rows group) refl e
     where
       go : (o : Option Made) → making_of rows group ≡ o → unwrap_or (option_map (λ (m : Made). nat_le m.start reading) o) false ≡ true → (k : Make) × In k makes × Begins group k × (k.making.decision.start ≤ reading)
@@ -149,7 +90,7 @@ module _ (rows : List Row) (makes : List Make) (printed : ArePrinted rows makes)
           (k.0, k.1, k.2, grind (arith, nat_tests))
 
   -- A group that has started, and above which none has, is the started one.
-  pub started_is : AllOnce makes → (group reading : ℕ) (k : Make) → In k makes → Begins group k → k.making.decision.start ≤ reading
+  started_is : AllOnce makes → (group reading : ℕ) (k : Make) → In k makes → Begins group k → k.making.decision.start ≤ reading
       → ((j : Make) → In j makes → j.making.decision.turn ≡ 0 → j.making.decision.start ≤ reading → j.making.decision.group ≤ group)
       → started_at rows reading ≡ Some group
   started_is once group reading k i begins low above = go (started_at rows reading) refl
@@ -175,11 +116,6 @@ module _ (team : Team) (promises : List Promised) (rows : List Row) (makes : Lis
   members_of_made d made =
       let k = first_of_made team promises makes all d made in
       members_of_make rows makes printed once d.group k.0 k.1 k.2.begins ∙ k.2.same_members
-
-  pub start_of_made : (reading : ℕ) (d : Decision) → WasMade makes d → has_started rows reading d.group ≡ nat_le d.start reading
-  start_of_made reading d made =
-      let k = first_of_made team promises makes all d made in
-      start_of_make rows makes printed once d.group reading k.0 k.1 k.2.begins ∙ ap (λ start. nat_le start reading) k.2.start
 
   -- where no group above that of a made decision has started, that one is the started one
   pub started_is_made : (reading : ℕ) (d : Decision) → WasMade makes d → d.start ≤ reading

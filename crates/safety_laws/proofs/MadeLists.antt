@@ -9,7 +9,7 @@ use Rattle.tw_types.specs.declared.message.Report.{Report}
 use Rattle.tw_types.specs.declared.message.Seat.{Seat}
 use Rattle.tw_types.specs.declared.step.Step.{Step}
 use Rattle.tw_types.specs.Beliefs.{Belief, Informed, Blank, is_informed, last_of, view_decision}
-use Rattle.tw_types.specs.Decisions.{has_seat, is_seat_of}
+use Rattle.tw_types.specs.Decisions.{has_seat, is_seat_of, or_none}
 use Rattle.tw_types.specs.Process.{Process}
 use Rattle.tw_types.specs.Slots.{owner}
 use Rattle.tw_machine.specs.History.{Promised, Make, life}
@@ -52,7 +52,7 @@ tells_last_more makes makes' x (Some d) more k = (made_more makes makes' d more 
 pub tells_more : (makes makes' : List Make) (x : Promised) → More makes makes' → TellsDecision makes x → TellsDecision makes' x
 tells_more makes makes' x more k = record { informed = λ yes. tells_last_more makes makes' x x.promise.decision more (k.informed yes); ready = k.ready }
 
-pub reported_more : (promises promises' : List Promised) (number : ℕ) (r : Report) → More promises promises' → WasReported promises number r → WasReported promises' number r
+reported_more : (promises promises' : List Promised) (number : ℕ) (r : Report) → More promises promises' → WasReported promises number r → WasReported promises' number r
 reported_more promises promises' number r more k = (k.0, more k.0 k.1, k.2, k.3, k.4)
 
 comes_more : (team : Team) (promises promises' : List Promised) (older : List Make) (m : Make) → More promises promises' → ComesFrom team promises older m → ComesFrom team promises' older m
@@ -138,6 +138,11 @@ viewed (Blank followed) d e = absurd (cc)
 
 pub last_made : (makes : List Make) (p : Process) (d : Decision) → KeepsMade makes p → last_decision p ≡ Some d → WasMade makes d
 last_made makes p d k e = subst (WasMadeIfAny makes) (viewed p.belief d e) k.view
+
+-- a decision that may be missing, and is of a group, is there
+pub some_last : (o : Option Decision) → 1 ≤ (or_none o).group → (d : Decision) × (o ≡ Some d)
+some_last None low = absurd (omega (arith, low))
+some_last (Some d) low = (d, refl)
 
 informed_by_last : (b : Belief) (d : Decision) → last_of b ≡ Some d → is_informed b ≡ true
 informed_by_last (Informed last) d e = refl

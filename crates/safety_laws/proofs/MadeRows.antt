@@ -1,9 +1,8 @@
 -- The row of a make shows the make's group, and how long its list is.
-use Rattle.std.proofs.Common.{◌≡◌, ◌≢◌, refl, sym, ap, subst, ◌∙◌, ℕ, List, [], ◌∷◌, length, Option, Some, None}
+use Rattle.std.proofs.Common.{◌≡◌, ◌≢◌, refl, sym, ap, subst, ◌∙◌, List, [], ◌∷◌, length, Option, Some, None}
 use Rattle.std.proofs.lemmas.Option.{same_Some}
 use Rattle.std.specs.Option.{option_map}
 use Rattle.tw_types.specs.declared.message.Decision.{Decision}
-use Rattle.tw_types.specs.declared.message.Member.{Member}
 use Rattle.tw_types.specs.declared.step.Step.{Step}
 use Rattle.tw_types.specs.declared.team.Team.{Team}
 use Rattle.tw_types.specs.Beliefs.{log_length, view_decision}
@@ -14,25 +13,27 @@ use Rattle.tw_types.specs.Process.{Process}
 use Rattle.tw_types.specs.Row.{Row, Made}
 use Rattle.tw_types.specs.Team.{IsSound}
 use Rattle.tw_machine.specs.Applied.{Meaning}
+use Rattle.tw_machine.specs.Event.{Event}
 use Rattle.tw_machine.specs.History.{Make, list_of, history}
 use Rattle.tw_machine.specs.Places.{Each, Exists}
 use Rattle.tw_machine.specs.Rows.{columns, row_of, rows_of}
 use Rattle.tw_machine.specs.SafeRows.{life_of}
 use Rattle.tw_machine.specs.Standing.{last_decision}
 use Rattle.tw_machine.specs.Step.{step}
-use Rattle.tw_machine.specs.World.{Deed, deed_in, world, Admissible}
+use Rattle.tw_machine.specs.World.{Deed, deed_in, world, Admissible, happen}
 use Rattle.safety_laws.specs.Seen.{IsMadeLineOf}
 use Rattle.safety_laws.proofs.ClockLaw.{own_after}
+use Rattle.safety_laws.proofs.FirstDecisions.{one_member}
 use Rattle.safety_laws.proofs.GroupLaws.{agreed}
-use Rattle.safety_laws.proofs.Induction.{earlier, Turn, turn}
+use Rattle.safety_laws.proofs.Induction.{earlier, Turn, turn, by_turn}
 use Rattle.safety_laws.proofs.ListLaws.{with_beginnings, listed_well}
 use Rattle.safety_laws.proofs.Lists.{of_each}
 use Rattle.safety_laws.proofs.MadeLast.{step_made_last}
 use Rattle.safety_laws.proofs.MadeLists.{viewed, has_last}
-use Rattle.safety_laws.proofs.Places.{at_last}
+use Rattle.safety_laws.proofs.Places.{at_last, each_pushed}
 use Rattle.safety_laws.proofs.Prefixes.{list_at_is}
 use Rattle.safety_laws.proofs.Quorums.{HasOwnName}
-use Rattle.safety_laws.proofs.Seen.{each_pushed, made_lines_seen, makes_printed}
+use Rattle.safety_laws.proofs.Seen.{made_lines_seen, makes_printed}
 use Rattle.safety_laws.proofs.Stack.{Kept as Holding}
 use Rattle.safety_laws.proofs.TablesOf.{makes_more}
 use Rattle.safety_laws.proofs.Turns.{once_same}
@@ -55,17 +56,15 @@ record HasMade (line : Made) (d : Deed) : Type 0 where
   printed : line ≡ made_printed last
 
 deed_made : (team : Team) (past : List Step) (s : Step) (d : Deed) → Turn team past s d → (line : Made) → option_map made_printed d.out.made ≡ Some line → HasMade line d
-deed_made team past s d (Turn.Starts mode act comes) line e = absurd (let none : None ≡ Some line = sym (ap (λ (d : Deed). option_map made_printed d.out.made) comes) ∙ e in cc)
-deed_made team past s d (Turn.Stops act comes) line e = absurd (let none : None ≡ Some line = sym (ap (λ (d : Deed). option_map made_printed d.out.made) comes) ∙ e in cc)
-deed_made team past s d (Turn.Looks p runs act comes) line e = absurd (let none : None ≡ Some line = sym (ap (λ (d : Deed). option_map made_printed d.out.made) comes) ∙ e in cc)
-deed_made team past s d (Turn.Happens event p runs brings comes) line e = go (step team s.h event p).out.made refl (sym (ap (λ (d : Deed). option_map made_printed d.out.made) comes) ∙ e)
+deed_made team past s d t line = by_turn team past s (λ (d : Deed). option_map made_printed d.out.made ≡ Some line → HasMade line d) d t
+    (λ answer mute e. absurd (cc)) (λ p answer mute e. absurd (cc)) (λ event p runs brings. go event p (step team s.h event p).out.made refl)
   where
-    go : (o : Option Decision) → (step team s.h event p).out.made ≡ o → option_map made_printed o ≡ Some line → HasMade line d
-    go None is e = absurd (cc)
-    go (Some last) is e = record {
+    go : (event : Event) (p : Process) → (o : Option Decision) → (step team s.h event p).out.made ≡ o → option_map made_printed o ≡ Some line → HasMade line (happen team s.h event p)
+    go event p None is e = absurd (cc)
+    go event p (Some last) is e = record {
       process = (step team s.h event p).process;
       last = last;
-      runs = ap (λ (d : Deed). d.process) comes;
+      runs = refl;
       last_is = step_made_last team s.h event p last is;
       printed = sym (same_Some (made_printed last) line e);
     }
@@ -75,7 +74,7 @@ module _ {Content : Type 0} (meaning : Meaning Content) (team : Team) (past : Li
   last_shows : (k : Make) → In k (history team (s ∷ past)).makes → IsMadeLineOf (row_of meaning team past s) k → ShowsMake (row_of meaning team past s) k
   last_shows k i line = record {
     line = line;
-    member = member_is k.member (of_each HasOwnName (history team (s ∷ past)).makes k (agreed team (s ∷ past) sound ok).named i ∙ line.who) line.incarnation;
+    member = sym (one_member k.member (life_of (row_of meaning team past s)) (of_each HasOwnName (history team (s ∷ past)).makes k (agreed team (s ∷ past) sound ok).named i ∙ line.who) line.incarnation);
     group = ap (λ (o : Option Process). (columns team s.h ((world team past).process_of s.who) o).group) made.runs ∙ ap (λ o. (or_none o).group) made.last_is ∙ sym group;
     length_is = ap (λ (o : Option Process). (columns team s.h ((world team past).process_of s.who) o).length) made.runs ∙ whole ∙ ap length list;
   }
@@ -96,9 +95,6 @@ module _ {Content : Type 0} (meaning : Meaning Content) (team : Team) (past : Li
       list = ap (list_of (history team (s ∷ past)).makes) (viewed made.process.belief made.last made.last_is)
           ∙ list_at_is (history team (s ∷ past)).makes all.history.0.0.0.0.0.once k i made.last.group made.last.turn group (ap (λ (m : Made). m.turn) made.printed)
 
-      member_is : (m : Member) → m.who ≡ s.who → m.incarnation ≡ (row_of meaning team past s).incarnation → life_of (row_of meaning team past s) ≡ m
-      member_is m who incarnation = ap (λ (w : ℕ). record { who = w; incarnation = (row_of meaning team past s).incarnation }) (sym who) ∙ ap (λ (i : ℕ). record { who = m.who; incarnation = i }) (sym incarnation)
-
 -- ---- the rows of a schedule
 
 -- each row that prints a make shows one
@@ -106,7 +102,7 @@ made_rows : {Content : Type 0} (meaning : Meaning Content) (team : Team) (past :
     → Each (rows_of meaning team past) (λ i r. r.made ≢ None → (k : Make) × In k (history team past).makes × ShowsMake r k)
 made_rows meaning team [] sound ok = λ i r e. absurd (cc)
 made_rows meaning team (s ∷ past) sound ok =
-    each_pushed (λ r. r.made ≢ None → (k : Make) × In k (history team (s ∷ past)).makes × ShowsMake r k) (rows_of meaning team past) (row_of meaning team past s)
+    each_pushed (λ i r. r.made ≢ None → (k : Make) × In k (history team (s ∷ past)).makes × ShowsMake r k) (rows_of meaning team past) (row_of meaning team past s)
     (λ i r at has. let k = made_rows meaning team past sound (earlier team past s ok) i r at has in (k.0, makes_more team past s k.0 k.1, k.2))
     (λ has.
     let k = made_lines_seen meaning team (s ∷ past) ok (length (rows_of meaning team past)) (row_of meaning team past s) (at_last (rows_of meaning team past) (row_of meaning team past s)) has in

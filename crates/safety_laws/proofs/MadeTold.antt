@@ -45,9 +45,9 @@ use Rattle.tw_machine.proofs.Ends.{by_entering, by_taking, by_group, by_asking, 
 use Rattle.tw_machine.proofs.Exclusions.{turn_or_group, no_turn, group_time}
 
 -- from one run to a later one nothing more is made
-record MakesNone (a b : Run) : Type 0 where
-  line : b.out.made ≡ a.out.made
-  told : b.makings ≡ a.makings
+pub record MakesNone (a b : Run) : Type 0 where
+  pub line : b.out.made ≡ a.out.made
+  pub told : b.makings ≡ a.makings
 
 -- What is printed and told as made at a reading: nothing, or one decision of that reading.
 pub data AgreesOnMade (reading : Option ℕ) (line : Option Decision) (told : List Making) : Type 0 where
@@ -158,7 +158,7 @@ repeat_none team now r = go (last_decision r.process)
 ask_none : (now : Moment) (r : Run) → MakesNone r (ask_again now r)
 ask_none now r = by_asking now r (MakesNone r) (same r) (λ id source. record { line = refl; told = refl })
 
-beat_none : (team : Team) (now : Moment) (r : Run) → MakesNone r (give_beat team now r)
+pub beat_none : (team : Team) (now : Moment) (r : Run) → MakesNone r (give_beat team now r)
 beat_none team now r = go (is_due team.pace now.h r.process.beat)
   where
     marked : Run

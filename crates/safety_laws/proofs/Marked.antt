@@ -2,7 +2,9 @@
 use Rattle.std.proofs.Common.{◌≡◌, refl, sym, ap, subst, ◌∙◌, ℕ, zero, suc, ◌+◌, ◌-◌, ◌≤◌, nat_le, Bool, true, false, cond, List, [], ◌∷◌, ◌++◌, map, length, Option, Some, None, arith}
 use Rattle.std.specs.Prelude.{slice_get, slice_set}
 use Rattle.std.specs.List.{AllByRecursion}
+use Rattle.std.specs.Option.{option_map}
 use Rattle.std.proofs.lemmas.List.{length-map, map-append}
+use Rattle.std.proofs.lemmas.Option.{slice_get-map}
 use Rattle.tw_types.specs.declared.team.Team.{Team}
 use Rattle.tw_types.specs.declared.message.Decision.{Decision}
 use Rattle.tw_types.specs.declared.message.Kept.{Kept}
@@ -14,12 +16,17 @@ use Rattle.tw_types.specs.Waiting.{Waiting, held_payloads, payloads_of}
 use Rattle.tw_types.proofs.Delivered.{run_shape}
 use Rattle.safety_laws.specs.Beginnings.{unmarked}
 use Rattle.safety_laws.specs.Pending.{NoneTwice}
+use Rattle.safety_laws.proofs.Places.{mapped_at}
 
 -- ---- lists that are the same but for marks
 
 -- the same updates in the same order
 abbrev pub Alike : List Kept → List Kept → Type 0
 Alike old new = map unmarked new ≡ map unmarked old
+
+-- what stands in a list stands there without its mark
+pub without_mark : (xs : List Kept) (i : ℕ) (k : Kept) → slice_get xs i ≡ Some k → slice_get (map unmarked xs) i ≡ Some (unmarked k)
+without_mark xs i k is = slice_get-map unmarked xs i ∙ ap (option_map unmarked) is
 
 -- what holds of each, whatever its mark, holds of each of such a list
 pub each_alike : (P : Kept → Type 0) → ((a b : Kept) → unmarked b ≡ unmarked a → P a → P b) → (old new : List Kept) → Alike old new → AllByRecursion P old → AllByRecursion P new
@@ -46,7 +53,7 @@ once_alike (a ∷ old) (b ∷ new) same once =
     )
 
 -- there are as many
-pub length_alike : (old new : List Kept) → Alike old new → length new ≡ length old
+length_alike : (old new : List Kept) → Alike old new → length new ≡ length old
 length_alike old new same = sym (length-map new unmarked) ∙ ap length same ∙ length-map old unmarked
 
 -- ---- a list of which positions are marked
@@ -57,22 +64,35 @@ set_alike [] i k is = absurd (cc)
 set_alike (x ∷ entries) zero k is = let same : x ≡ k = cc in ap (λ (z : Kept). unmarked z ∷ map unmarked entries) (sym same)
 set_alike (x ∷ entries) (suc i) k is = ap (λ ks. unmarked x ∷ ks) (set_alike entries i k is)
 
--- of a log only marks are others
-record OnlyMarks (old new : Log) : Type 0 where
-  base : new.base ≡ old.base
-  passed : new.passed ≡ old.passed
-  entries : Alike old.entries new.entries
+-- a position of a log is one of its list
+pub listed_at : (i : ℕ) (log : Log) (k : Kept) → log_at i log ≡ Some k → slice_get log.entries (i - log.base) ≡ Some k
+listed_at i log k is = go (nat_le log.base i) is
+  where
+    go : (b : Bool) → cond b (slice_get log.entries (i - log.base)) None ≡ Some k → slice_get log.entries (i - log.base) ≡ Some k
+    go true is = is
+    go false is = absurd (cc)
 
-one_marked : (i : ℕ) (log : Log) → OnlyMarks log (marked_at i log)
+-- in logs from one base on whose lists are the same but for marks the same update stands at each position
+pub log_alike : (old new : Log) → new.base ≡ old.base → Alike old.entries new.entries → (i : ℕ) (k : Kept) → log_at i old ≡ Some k → (there : Kept) × (log_at i new ≡ Some there) × (unmarked there ≡ unmarked k)
+log_alike old new base same i k is = subst (λ b. (there : Kept) × (cond (nat_le b i) (slice_get new.entries (i - b)) None ≡ Some there) × (unmarked there ≡ unmarked k)) (sym base) (go (nat_le old.base i) is)
+  where
+    go : (b : Bool) → cond b (slice_get old.entries (i - old.base)) None ≡ Some k → (there : Kept) × (cond b (slice_get new.entries (i - old.base)) None ≡ Some there) × (unmarked there ≡ unmarked k)
+    go true is = mapped_at unmarked new.entries (i - old.base) (unmarked k) (ap (λ xs. slice_get xs (i - old.base)) same ∙ without_mark old.entries (i - old.base) k is)
+    go false is = absurd (cc)
+
+-- of a log only marks are others
+pub record OnlyMarks (old new : Log) : Type 0 where
+  pub base : new.base ≡ old.base
+  pub passed : new.passed ≡ old.passed
+  pub entries : Alike old.entries new.entries
+
+-- where one position is marked
+pub one_marked : (i : ℕ) (log : Log) → OnlyMarks log (marked_at i log)
 one_marked i log = go (log_at i log) refl
   where
-    there : (k : Kept) → (b : Bool) → cond b (slice_get log.entries (i - log.base)) None ≡ Some k → slice_get log.entries (i - log.base) ≡ Some k
-    there k true is = is
-    there k false is = absurd (cc)
-
     go : (found : Option Kept) → log_at i log ≡ found → OnlyMarks log (marked_at i log)
     go None is = rw is (record { base = refl; passed = refl; entries = refl })
-    go (Some k) is = rw is (record { base = refl; passed = refl; entries = set_alike log.entries (i - log.base) k (there k (nat_le log.base i) is) })
+    go (Some k) is = rw is (record { base = refl; passed = refl; entries = set_alike log.entries (i - log.base) k (listed_at i log k is) })
 
 each_marked : (positions : List ℕ) (log : Log) → OnlyMarks log (marked_each positions log)
 each_marked [] log = record { base = refl; passed = refl; entries = refl }

@@ -1,7 +1,7 @@
 -- What a process has with a mark, in its list or of what waits, went early at it.
-use Rattle.std.proofs.Common.{◌≡◌, refl, sym, ap, subst, ◌∙◌, inl, inr, ℕ, zero, suc, ◌-◌, nat_le, Bool, true, false, cond, List, [], ◌∷◌, ◌++◌, map, filter, filter_map, Option, Some, None}
-use Rattle.std.specs.Prelude.{slice_get, slice_set}
-use Rattle.std.specs.List.{AllByRecursion, cons_option}
+use Rattle.std.proofs.Common.{◌≡◌, refl, sym, ap, subst, ◌∙◌, inl, inr, ℕ, zero, suc, ◌-◌, Bool, true, false, cond, List, [], ◌∷◌, ◌++◌, map, filter, filter_map, Option, Some, None}
+use Rattle.std.specs.Prelude.{slice_set}
+use Rattle.std.specs.List.{AllByRecursion}
 use Rattle.std.specs.Option.{option_map}
 use Rattle.tw_types.specs.declared.team.Team.{Team}
 use Rattle.tw_types.specs.declared.datagram.Body.TheVariants as bodies
@@ -36,8 +36,9 @@ use Rattle.safety_laws.specs.Laws.{Holds}
 use Rattle.safety_laws.specs.Sends.{IsOfSender}
 use Rattle.safety_laws.proofs.DeliveryLaws.{with_delivered}
 use Rattle.safety_laws.proofs.IdLists.{same_id_of}
-use Rattle.safety_laws.proofs.Lists.{of_each, each_weaker, in_first, in_last}
+use Rattle.safety_laws.proofs.Lists.{of_each, each_weaker, in_first, in_last, in_filter_map}
 use Rattle.safety_laws.proofs.MadeLists.{More}
+use Rattle.safety_laws.proofs.Marked.{log_alike, one_marked, same_id}
 use Rattle.safety_laws.proofs.SendLaws.{with_ids}
 use Rattle.safety_laws.proofs.Stack.{IsMailed, IsPartOf, RulesOver, rests_on}
 use Rattle.safety_laws.proofs.WaitingItems.{all_entered, all_put, all_filled, all_released, all_held, all_settled}
@@ -80,22 +81,6 @@ set_all P [] i k new all = tt
 set_all P (x ∷ xs) zero k new all = (new, all.1)
 set_all P (x ∷ xs) (suc i) k new all = (all.0, set_all P xs i k new all.1)
 
--- where one item is marked there stands what stood there, but for its mark
-set_back : (xs : List Kept) (i j : ℕ) (k u : Kept) → slice_get xs i ≡ Some k → slice_get (slice_set xs i (as_early k)) j ≡ Some u → (old : Kept) × (slice_get xs j ≡ Some old) × (u.entry.id ≡ old.entry.id)
-set_back [] i j k u at is = absurd (cc)
-set_back (x ∷ xs) zero zero k u at is = (x, refl, cc)
-set_back (x ∷ xs) zero (suc j) k u at is = (u, is, refl)
-set_back (x ∷ xs) (suc i) zero k u at is = (u, is, refl)
-set_back (x ∷ xs) (suc i) (suc j) k u at is = set_back xs i j k u at is
-
--- where there is something at a position, it stands in the list
-there_at : (i : ℕ) (log : Log) (k : Kept) → log_at i log ≡ Some k → (nat_le log.base i ≡ true) × (slice_get log.entries (i - log.base) ≡ Some k)
-there_at i log k is = go (nat_le log.base i) refl is
-  where
-    go : (b : Bool) → nat_le log.base i ≡ b → cond b (slice_get log.entries (i - log.base)) None ≡ Some k → (nat_le log.base i ≡ true) × (slice_get log.entries (i - log.base) ≡ Some k)
-    go true low e = (low, e)
-    go false low e = absurd (cc)
-
 -- a log of which one position is marked
 marked_some : (i : ℕ) (log : Log) (k : Kept) → log_at i log ≡ Some k → marked_at i log ≡ record log { entries = slice_set log.entries (i - log.base) (as_early k) }
 marked_some i log k is = rw is refl
@@ -105,14 +90,10 @@ marked_none i log is = rw is refl
 
 -- at each position of it stands an update of the id that stood there
 marked_back : (i j : ℕ) (log : Log) (u : Kept) → log_at j (marked_at i log) ≡ Some u → (old : Kept) × (log_at j log ≡ Some old) × (u.entry.id ≡ old.entry.id)
-marked_back i j log u is = go (log_at i log) refl
-  where
-    go : (found : Option Kept) → log_at i log ≡ found → (old : Kept) × (log_at j log ≡ Some old) × (u.entry.id ≡ old.entry.id)
-    go None none = (u, ap (log_at j) (sym (marked_none i log none)) ∙ is, refl)
-    go (Some k) some =
-        let there = there_at j (record log { entries = slice_set log.entries (i - log.base) (as_early k) }) u (ap (log_at j) (sym (marked_some i log k some)) ∙ is) in
-        let back = set_back log.entries (i - log.base) (j - log.base) k u (there_at i log k some).1 there.1 in
-        (back.0, ap (λ b. cond b (slice_get log.entries (j - log.base)) None) there.0 ∙ back.1, back.2)
+marked_back i j log u is =
+    let marks = one_marked i log in
+    let old = log_alike (marked_at i log) log (sym marks.base) (sym marks.entries) j u is in
+    (old.0, old.1, sym (same_id u old.0 old.2))
 
 -- where each of these positions has an update of such an id, so has each mark
 marked_all : (P : UpdateId → Type 0) (positions : List ℕ) (log : Log) → ((i : ℕ) (k : Kept) → In i positions → log_at i log ≡ Some k → P k.entry.id) → AllByRecursion (IsMarkOf P) log.entries
@@ -127,17 +108,6 @@ marked_all P (i ∷ positions) log each all = marked_all P positions (marked_at 
     one None none = subst (λ (l : Log). AllByRecursion (IsMarkOf P) l.entries) (sym (marked_none i log none)) all
     one (Some k) some = subst (λ (l : Log). AllByRecursion (IsMarkOf P) l.entries) (sym (marked_some i log k some))
         (set_all (IsMarkOf P) log.entries (i - log.base) (as_early k) (λ early. each i k (inl refl) some) all)
-
--- what is found for an item is among all that is found
-in_found : {X Y : Type 0} (f : X → Option Y) (xs : List X) (x : X) (y : Y) → In x xs → f x ≡ Some y → In y (filter_map f xs)
-in_found f [] x y i is = absurd i
-in_found {X} {Y} f (z ∷ xs) x y i is = go (f z) refl i (λ j. in_found f xs x y j is)
-  where
-    go : (o : Option Y) → f z ≡ o → In x (z ∷ xs) → (In x xs → In y (filter_map f xs)) → In y (cons_option o (filter_map f xs))
-    go None e (inl same) rest = absurd (let no : f x ≡ None = ap f same ∙ e in cc)
-    go (Some w) e (inl same) rest = let found : f x ≡ Some w = ap f same ∙ e in inl (cc)
-    go None e (inr j) rest = rest j
-    go (Some w) e (inr j) rest = inr (rest j)
 
 -- what waits and gets a mark is told
 weaks_all : (P : UpdateId → Type 0) (pending : List Kept) → ((u : Kept) → In u (weaks pending) → P u.entry.id) → AllByRecursion (IsMarkOf P) pending → AllByRecursion (IsMarkOf P) (weaks_marked pending)
@@ -244,7 +214,7 @@ module _ (team : Team) (past : List Step) (s : Step) (here : Here) (x y : State)
     went_at i u at is =
         let z : Delivered = delivered_at c.last (AtEarly i) (as_early u) in
         let early : List Delivered = earlies_told here.team c.last behind.passed behind in
-        let there : In z early = in_found (λ (i : ℕ). option_map (λ (v : Kept). delivered_at c.last (AtEarly i) (as_early v)) (log_at i behind)) (early_positions here.team c.last behind.passed behind) i z at
+        let there : In z early = in_filter_map (λ (i : ℕ). option_map (λ (v : Kept). delivered_at c.last (AtEarly i) (as_early v)) (log_at i behind)) (early_positions here.team c.last behind.passed behind) i z at
         (ap (option_map (λ (v : Kept). delivered_at c.last (AtEarly i) (as_early v))) is) in
         went z (in_first z (map _ (passes here.team c.last p.log) ++ early) (map (delivered_at c.last AtWait) (weaks p.waiting.pending)) (in_last z (map _ (passes here.team c.last p.log)) early there)) refl
 

@@ -30,7 +30,7 @@ use Rattle.safety_laws.proofs.Readings.{has_just_read, not_later}
 use Rattle.safety_laws.proofs.Stack.{Stepping, LawRules}
 
 -- what a process may read isn't below what it read
-pub not_above : (ppm who : ℕ) (past : List Step) (t h t0 h0 : ℕ) → MayRead ppm who past t h → HasRead past who t0 h0 → h0 ≤ h
+not_above : (ppm who : ℕ) (past : List Step) (t h t0 h0 : ℕ) → MayRead ppm who past t h → HasRead past who t0 h0 → h0 ≤ h
 not_above ppm who [] t h t0 h0 may read = absurd read
 not_above ppm who (e ∷ past) t h t0 h0 may (inl r) =
     let test : nat_eq e.who who ≡ true = rw r.by (same_number who) in
@@ -78,7 +78,7 @@ is_again_later past s modes.Again act may l = refl
 
 -- ---- a step more, and a start
 
-pub life_grows : (past : List Step) (s : Step) (who l : ℕ) → l ≤ life who past → l ≤ life who (s ∷ past)
+life_grows : (past : List Step) (s : Step) (who l : ℕ) → l ≤ life who past → l ≤ life who (s ∷ past)
 life_grows past s who l low = go (nat_eq s.who who && is_start s.act)
   where
     go : (b : Bool) → l ≤ cond b (suc (life who past)) (life who past)

@@ -15,6 +15,7 @@ use Rattle.tw_types.specs.Appending.{raised, with_appended}
 use Rattle.tw_types.specs.Turns.{is_turn, is_next, next_draft, supported, acks, least, raised_low, cut_to, with_own_support, finished, next_decision}
 use Rattle.tw_types.specs.Items.{In}
 use Rattle.safety_laws.proofs.FirstDecisions.{same_member_of, same_member, or_later}
+use Rattle.safety_laws.proofs.Lists.{found_in}
 
 -- ---- the ring
 
@@ -29,14 +30,6 @@ next_seat me d e = go (seat_after d.maker d.seats.items) refl e
     go None is e = absurd (cc)
     go (Some seat) is e = (seat, is, same_member_of seat.member me e)
 
-found_in : (p : Seat → Bool) (seats : List Seat) (seat : Seat) → find p seats ≡ Some seat → In seat seats
-found_in p [] seat e = absurd (cc)
-found_in p (x ∷ seats) seat e = go (p x) e (found_in p seats seat)
-  where
-    go : (b : Bool) → cond b (Some x) (find p seats) ≡ Some seat → (find p seats ≡ Some seat → In seat seats) → In seat (x ∷ seats)
-    go true e rest = inl (cc)
-    go false e rest = inr (rest e)
-
 first_in : (seats : List Seat) (seat : Seat) → slice_get seats 0 ≡ Some seat → In seat seats
 first_in [] seat e = absurd (cc)
 first_in (x ∷ seats) seat e = inl (cc)
@@ -46,7 +39,7 @@ after_in maker seats seat e = go (find (λ (s : Seat). nat_lt maker s.member.who
   where
     go : (o : Option Seat) → find (λ (s : Seat). nat_lt maker s.member.who) seats ≡ o → option_or o (slice_get seats 0) ≡ Some seat → In seat seats
     go None is e = first_in seats seat e
-    go (Some x) is e = found_in (λ (s : Seat). nat_lt maker s.member.who) seats seat (is ∙ e)
+    go (Some x) is e = (found_in (λ (s : Seat). nat_lt maker s.member.who) seats seat (is ∙ e)).0
 
 -- ---- the least of some numbers
 
@@ -107,7 +100,7 @@ raised_below low end seats a b = go (list_all (λ (s : Seat). is_some s.support)
     go false = omega arith
 
 -- a decision whose maker has a seat keeps the length of its draft
-pub finished_length : (draft : Decision) (seat : Seat) → In seat draft.seats.items → seat.member.who ≡ draft.maker → decision_length (finished draft) ≡ decision_length draft
+finished_length : (draft : Decision) (seat : Seat) → In seat draft.seats.items → seat.member.who ≡ draft.maker → decision_length (finished draft) ≡ decision_length draft
 finished_length draft seat i mine =
     let support : Support = record { ack = decision_length draft; at = draft.made } in
     let acked = least_below (acks (map (supported draft.maker support) draft.seats.items)) (decision_length draft) (in_acks draft.seats.items draft.maker support seat i mine) in

@@ -75,7 +75,7 @@ seq_is_new p = omega (arith, max)
 
 module _ (team : Team) (past : List Step) (s : Step) (here : Here) (x y : State) (at : Stepping team past s here) (before : Holds (of_groups team) (s ∷ past) (world team past) s.who x) (k : Holds sends (s ∷ past) (world team past) s.who x)
     (sending : Sending) (may : Proposes here x sending) where
-  abbrev pub new : SentUpdate
+  abbrev new : SentUpdate
   new = send_item (member_of x.process.identity) here.life here.step sending
 
   by_me : new.who ≡ s.who
@@ -122,7 +122,7 @@ module _ (team : Team) (past : List Step) (s : Step) (here : Here) (x y : State)
   informed : is_informed x.process.belief ≡ true
   informed = ap is_informed (backing here.team x.process.vote x.process.belief (Some may.t) may.up).is_last
 
-  pub sends_one : y.process.identity ≡ x.process.identity → y.process.belief ≡ x.process.belief → y.process.next_seq ≡ suc sending.update.entry.id.seq → y.written.sends ≡ new ∷ x.written.sends
+  sends_one : y.process.identity ≡ x.process.identity → y.process.belief ≡ x.process.belief → y.process.next_seq ≡ suc sending.update.entry.id.seq → y.written.sends ≡ new ∷ x.written.sends
       → Holds sends (s ∷ past) (world team past) s.who y
   sends_one identity belief next newest = record {
     history = rw newest (all_new, (new_sender, k.history.1));

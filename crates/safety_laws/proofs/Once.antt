@@ -57,7 +57,7 @@ before_once team = Both (Both (of_promises team) memory) (made team)
 -- ---- promises of one process
 
 -- of two promises of one process one is below the other, if they aren't the same
-pub ordered : (promises : List Promised) → Ascends promises → (a b : Promised) → In a promises → In b promises → a.who ≡ b.who → (a ≡ b) ⊎ IsBelow a b ⊎ IsBelow b a
+ordered : (promises : List Promised) → Ascends promises → (a b : Promised) → In a promises → In b promises → a.who ≡ b.who → (a ≡ b) ⊎ IsBelow a b ⊎ IsBelow b a
 ordered [] all a b i j same = absurd i
 ordered (x ∷ older) all a b (inl p) (inl q) same = inl (p ∙ sym q)
 ordered (x ∷ older) all a b (inl p) (inr j) same = inr (inl (subst (λ (z : Promised). IsBelow z b) (sym p) (of_each (λ (y : Promised). y.who ≡ x.who → IsBelow x y) older b all.0 j (sym same ∙ ap (λ (z : Promised). z.who) p))))
@@ -65,7 +65,7 @@ ordered (x ∷ older) all a b (inr i) (inl q) same = inr (inr (subst (λ (z : Pr
 ordered (x ∷ older) all a b (inr i) (inr j) same = ordered older all.1 a b i j same
 
 -- a process gives one promise of a number
-pub one_of_number : (promises : List Promised) → Ascends promises → (a b : Promised) → In a promises → In b promises → a.who ≡ b.who → a.promise.number ≡ b.promise.number → a ≡ b
+one_of_number : (promises : List Promised) → Ascends promises → (a b : Promised) → In a promises → In b promises → a.who ≡ b.who → a.promise.number ≡ b.promise.number → a ≡ b
 one_of_number promises all a b i j same number = go (ordered promises all a b i j same)
   where
     go : (a ≡ b) ⊎ IsBelow a b ⊎ IsBelow b a → a ≡ b
@@ -410,7 +410,7 @@ module _ (team : Team) (past : List Step) (s : Step) (here : Here) (x y : State)
           go (Next last i turn eq ballot) = new_number c s.who x.process b (maker.ballot b (sym ballot ∙ is)) (k.own.1 b (sym ballot ∙ is)) (λ mine. is)
           go (Group ballot i full e eq none) = absurd (cc)
 
-  pub once_changes : Holds once steps (world team past) s.who y
+  once_changes : Holds once steps (world team past) s.who y
   once_changes = changed change
 
 -- no process made anything before its first start

@@ -8,11 +8,9 @@ use Rattle.tw_types.specs.declared.message.Seat.{Seat}
 use Rattle.tw_machine.specs.History.{Promised, Make, Up}
 use Rattle.tw_types.specs.Items.{In}
 use Rattle.safety_laws.specs.Made.{members}
-use Rattle.safety_laws.specs.Once.{AllOnce}
 use Rattle.safety_laws.specs.Ups.{WasUp}
 use Rattle.safety_laws.proofs.Counting.{IsMajority}
 use Rattle.safety_laws.proofs.Groups.{HasFirst, has_first, are_majority, seat_in}
-use Rattle.safety_laws.proofs.Turns.{once_same}
 use Rattle.safety_laws.proofs.Leases.{up_outlasts}
 use Rattle.safety_laws.proofs.Quorums.{Agree}
 
@@ -55,26 +53,3 @@ module _ (team : Team) (promises : List Promised) (makes : List Make) (k : Agree
     where
       h : HasFirst team promises makes was.made.0
       h = has_first team promises makes k.arise was.made.0 was.made.1
-
-  -- Two that are up at one reading are of one group,
-  pub one_group : (u v : Up) → WasUp team makes u → WasUp team makes v → u.reading ≡ v.reading → u.group ≡ v.group
-  one_group u v was was' same =
-      let a = own_started u was in
-      let b = own_started v was' in
-      let up : v.group ≤ u.group = subst (λ (g : ℕ). g ≤ u.group) b.1.group (none_above u was b.0 b.1.among b.1.turn (subst (λ (r : ℕ). b.0.making.decision.start ≤ r) (sym same) b.1.started)) in
-      let down : u.group ≤ v.group = subst (λ (g : ℕ). g ≤ v.group) a.1.group (none_above v was' a.0 a.1.among a.1.turn (subst (λ (r : ℕ). a.0.making.decision.start ≤ r) same a.1.started)) in
-      omega arith
-
-  -- which has one first make, so one list of members, and both are named in it.
-  pub one_first : AllOnce makes → (u v : Up) → WasUp team makes u → WasUp team makes v → u.reading ≡ v.reading
-      → (first : Make) × IsFirstOf team makes u first × IsFirstOf team makes v first
-  one_first once u v was was' same =
-      let a = own_started u was in
-      let b = own_started v was' in
-      let group = one_group u v was was' same in
-      let one : b.0 ≡ a.0 = once_same makes once b.0 a.0 b.1.among a.1.among (b.1.group ∙ sym group ∙ sym a.1.group, b.1.turn ∙ sym a.1.turn) in
-      (a.0, a.1, subst (IsFirstOf team makes v) one b.1)
-
-  -- and their last decisions list the same members
-  pub one_list : AllOnce makes → (u v : Up) → WasUp team makes u → WasUp team makes v → u.reading ≡ v.reading → members u.last ≡ members v.last
-  one_list once u v was was' same = let f = one_first once u v was was' same in sym f.1.last_members ∙ f.2.last_members

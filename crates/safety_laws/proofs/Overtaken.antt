@@ -33,7 +33,7 @@ behind_apart (m ∷ older) once later earlier (inl b) same = of_each (λ (d : Ma
 behind_apart (m ∷ older) once later earlier (inr b) same = behind_apart older once.1 later earlier b same
 
 -- What stands behind one that stands behind another stands behind that.
-pub behind_also : (makes : List Make) → AllOnce makes → (a b c : Make) → IsBehind makes a b → IsBehind makes b c → IsBehind makes a c
+behind_also : (makes : List Make) → AllOnce makes → (a b c : Make) → IsBehind makes a b → IsBehind makes b c → IsBehind makes a c
 behind_also [] once a b c i j = i
 behind_also (m ∷ older) once a b c (inl i) (inl j) = inl (i.0, j.1)
 behind_also (m ∷ older) once a b c (inl i) (inr j) = inl (i.0, earlier_in older b c j)
@@ -112,11 +112,11 @@ module _ (team : Team) (promises : List Promised) (makes : List Make) (agree : A
       late_at c by begins turn greater behind supported (λ first first_turn above first_behind below. late_below n c first begins first_turn above first_behind supported (omega (arith, low, below)))
 
   -- A group that was made when a greater one had been made already has no decision with supports of a majority.
-  pub late_is_silent : (c by : Make) → c.making.decision.turn ≡ 0 → by.making.decision.turn ≡ 0 → c.making.decision.group < by.making.decision.group → IsBehind makes c by → IsSupportedGroup team makes c.making.decision.group → ⊥
+  late_is_silent : (c by : Make) → c.making.decision.turn ≡ 0 → by.making.decision.turn ≡ 0 → c.making.decision.group < by.making.decision.group → IsBehind makes c by → IsSupportedGroup team makes c.making.decision.group → ⊥
   late_is_silent c by begins turn greater behind supported = late_below (suc by.making.decision.group) c by begins turn greater behind supported (omega arith)
 
   -- and so an overtaken one has none
-  pub overtaken_is_silent : (c : Make) → c.making.decision.turn ≡ 0 → IsOvertaken team makes c → IsSupportedGroup team makes c.making.decision.group → ⊥
+  overtaken_is_silent : (c : Make) → c.making.decision.turn ≡ 0 → IsOvertaken team makes c → IsSupportedGroup team makes c.making.decision.group → ⊥
   overtaken_is_silent c begins k = late_is_silent c k.by begins k.turn k.greater k.before
 
 -- by what is known of promises and makes

@@ -1,24 +1,24 @@
 -- What was delivered is of lists, and backed.
-use Rattle.std.proofs.Common.{◌≡◌, ◌≢◌, refl, sym, ap, subst, ◌∙◌, inl, inr, ◌⊎◌, ℕ, ◌<◌, Bool, true, false, cond, List, ◌∷◌, map, take, drop, Some, arith}
-use Rattle.std.specs.Prelude.{slice_get, ◌&&◌, ◌||◌}
+use Rattle.std.proofs.Common.{◌≡◌, ◌≢◌, refl, sym, ap, subst, ◌∙◌, inl, inr, ◌⊎◌, ℕ, ◌<◌, true, false, List, ◌∷◌, map, take, drop, Some, arith}
+use Rattle.std.specs.Prelude.{slice_get, ◌||◌}
 use Rattle.std.specs.List.{AllByRecursion}
 use Rattle.std.proofs.Math.Seq.{take-length}
+use Rattle.std.proofs.lemmas.Bool.{false_from_ne_true}
 use Rattle.tw_types.specs.declared.team.Team.{Team}
 use Rattle.tw_types.specs.declared.message.Decision.{Decision}
 use Rattle.tw_types.specs.declared.message.Kept.{Kept}
 use Rattle.tw_types.specs.declared.message.Member.{Member}
 use Rattle.tw_types.specs.declared.outputs.How.{How}
-use Rattle.tw_types.specs.declared.outputs.How.TheVariants.{Now, Earlier, Late}
+use Rattle.tw_types.specs.declared.outputs.How.TheVariants.{Late}
 use Rattle.tw_types.specs.declared.outputs.Mode.{Mode}
 use Rattle.tw_types.specs.declared.outputs.Mode.TheVariants as modes
 use Rattle.tw_types.specs.declared.step.Step.{Step}
-use Rattle.tw_types.specs.Beliefs.{Log, is_informed, view_decision}
+use Rattle.tw_types.specs.Beliefs.{Log, is_informed, view_decision, last_of}
 use Rattle.tw_types.specs.Deliveries.{fulfils, passes_at, how_passed, run_passed}
 use Rattle.tw_types.specs.Items.{In}
 use Rattle.tw_types.specs.Logs.{log_at}
 use Rattle.tw_types.specs.Process.{Process, started}
 use Rattle.tw_types.specs.Sends.{as_sent}
-use Rattle.tw_types.specs.Updates.{is_unordered}
 use Rattle.tw_types.specs.Waiting.{payloads_of, held_payloads}
 use Rattle.tw_machine.specs.Delivering.{all_told}
 use Rattle.tw_machine.specs.History.{Line, SentUpdate, line_item, lines_on, list_of}
@@ -27,12 +27,13 @@ use Rattle.tw_machine.specs.Run.{Delivered}
 use Rattle.tw_machine.specs.Standing.{member_of}
 use Rattle.tw_machine.specs.World.{world, Admissible}
 use Rattle.safety_laws.specs.Beginnings.{known, unmarked, IsEndOfKnown}
-use Rattle.safety_laws.specs.Delivered.{IsPassedOf, HasAt, PassesAscend, IsBacked, IsNamedLine, delivered}
+use Rattle.safety_laws.specs.Delivered.{IsPassedOf, HasAt, PassesAscend, IsBacked, IsNamedLine, delivered, StandsPassed}
 use Rattle.safety_laws.specs.Effects.{Written, State, Here, Delivers, WasSent, Numbers, SendsNone, SendsOne, Change}
 use Rattle.safety_laws.specs.Groups.{OfGroups, OfMember}
 use Rattle.safety_laws.specs.Ids.{IsOfSend}
 use Rattle.safety_laws.specs.Laws.{Holds}
 use Rattle.safety_laws.specs.Made.{WasMade}
+use Rattle.safety_laws.specs.Once.{AllOnce}
 use Rattle.safety_laws.specs.Readings.{HasRead}
 use Rattle.safety_laws.proofs.Delivers.{log_delivers}
 use Rattle.safety_laws.proofs.Induction.{start_by}
@@ -41,7 +42,7 @@ use Rattle.safety_laws.proofs.Lists.{of_each, each_weaker, in_first}
 use Rattle.safety_laws.proofs.MadeLists.{More, more_same, more_by, viewed, last_made, has_last}
 use Rattle.safety_laws.proofs.Marked.{cursor_delivers}
 use Rattle.safety_laws.proofs.Names.{above_read}
-use Rattle.safety_laws.proofs.PassedLists.{at_base, without_mark, GoesOn, goes_same, goes_after, goes_delivered, IsTold, all_are_told, all_go_up, each_line, IsBelow, ascend_on}
+use Rattle.safety_laws.proofs.PassedLists.{GoesOn, goes_same, goes_after, goes_delivered, IsTold, all_are_told, all_go_up, each_line, IsBelow, ascend_on, stands_in, late_told}
 use Rattle.safety_laws.proofs.Prefixes.{list_of_made}
 use Rattle.safety_laws.proofs.Stack.{Stepping, RulesOver}
 
@@ -79,13 +80,25 @@ pub whole_list : (makes : List items.Make) (p : Process) (list : List Kept) → 
 whole_list makes p list base ends informed is =
     ends.entries ∙ ap (λ n. drop n (known makes p)) base ∙ ap (λ n. take n (list_of makes (view_decision p.belief))) (ends.whole informed) ∙ take-length (list_of makes (view_decision p.belief)) ∙ is
 
+-- that of its last decision
+pub own_list : (makes : List items.Make) (p : Process) (d : Decision) → AllOnce makes → p.log.base ≡ 0 → IsEndOfKnown makes p → last_of p.belief ≡ Some d → (was : WasMade makes d) → map unmarked p.log.entries ≡ was.0.log
+own_list makes p d once base ends is was = whole_list makes p was.0.log base ends (has_last p d is) (ap (list_of makes) (viewed p.belief d is) ∙ list_of_made makes once d was)
+
+-- where what was passed stands at its position
+pub passed_in : (p : Process) (list : List Kept) → p.log.base ≡ 0 → map unmarked p.log.entries ≡ list → (position : ℕ) (update : Kept) → StandsPassed p position update → slice_get list position ≡ Some (unmarked update)
+passed_in p list base same position update k = stands_in p.log list base same position k.there k.at ∙ ap Some k.same
+
 -- what may pass and isn't late is fulfilled
 not_late : (team : Team) (d : Decision) (i : ℕ) (k : Kept) (how : How) → passes_at team d i k ≡ true → how ≡ how_passed k → how ≢ Late → fulfils team d i k.entry.atom ≡ true
-not_late team d i k how may is other = go k.entry.late refl
-  where
-    go : (late : Bool) → k.entry.late ≡ late → fulfils team d i k.entry.atom ≡ true
-    go true e = absurd (other (is ∙ ap (λ b. cond b Late (cond (is_unordered k.entry.order && k.early) Earlier Now)) e))
-    go false e = ap (λ b. b || fulfils team d i k.entry.atom) (sym e) ∙ may
+not_late team d i k how may is other =
+    let now : k.entry.late ≡ false = false_from_ne_true k.entry.late (λ e. other (is ∙ (late_told k).1 e)) in
+    ap (λ b. b || fulfils team d i k.entry.atom) (sym now) ∙ may
+
+-- a new line is of the process of the step, and of no other
+pub line_of_none_else : (team : Team) (past : List Step) (s : Step) (x : State) → Holds (with_beginnings team) (s ∷ past) (world team past) s.who x → (q : ℕ) (r : Process) → s.who ≢ q → (world team past).process_of q ≡ Some r
+    → member_of x.process.identity ≡ member_of r.identity → ⊥
+line_of_none_else team past s x before q r other runs same =
+    other (sym before.own.0.0.0.0.0.promiser.own.is ∙ ap (λ (m : Member). m.who) same ∙ (before.others q r other runs).0.0.0.0.0.promiser.own.is)
 
 -- ---- an effect
 
@@ -153,12 +166,11 @@ module _ (team : Team) (past : List Step) (s : Step) (here : Here) (x y : State)
 
     -- the process's list is that decision's
     list_is : map unmarked p.log.entries ≡ was.0.log
-    list_is = whole_list x.written.makes p was.0.log k.own.base before.own.1.1 informed
-        (ap (list_of x.written.makes) (viewed p.belief c.last c.last_is) ∙ list_of_made x.written.makes known_now.once c.last was)
+    list_is = own_list x.written.makes p c.last known_now.once k.own.base before.own.1.1 c.last_is was
 
     -- so it has there what the process has
     has_at : (i : ℕ) (u : Kept) → log_at i p.log ≡ Some u → HasAt was.0 i u
-    has_at i u is = ap (λ l. slice_get l i) (sym list_is) ∙ without_mark p.log.entries i u (sym (at_base p.log k.own.base i) ∙ is)
+    has_at = stands_in p.log was.0.log k.own.base list_is
 
     -- what it fulfils
     fulfilled : (i : ℕ) (u : Kept) → fulfils here.team c.last i u.entry.atom ≡ true → fulfils team was.0.making.decision i u.entry.atom ≡ true
@@ -219,7 +231,7 @@ module _ (team : Team) (past : List Step) (s : Step) (here : Here) (x y : State)
     -- and of no other one
     line_of_other : (q : ℕ) (r : Process) → s.who ≢ q → (world team past).process_of q ≡ Some r → (z : Delivered) → IsPassedOf r (line z)
     unfolding line
-    line_of_other q r other runs z same = absurd (other (sym mine.promiser.own.is ∙ ap (λ (m : Member). m.who) same ∙ (before.others q r other runs).0.0.0.0.0.promiser.own.is))
+    line_of_other q r other runs z same = absurd (line_of_none_else team past s x before q r other runs same)
 
     -- what was written down then
     lines_are : y.written ≡ record (x.written) { lines = lines_on here.row (member_of p.identity) here.life here.step told x.written.lines }
@@ -272,7 +284,7 @@ module _ (team : Team) (past : List Step) (s : Step) (here : Here) (x y : State)
   sends_more (SendsOne sending from seq new) = more_by x.written.sends y.written.sends _ new
 
   -- whatever the effect
-  pub changed : Change here x y → Holds (delivered team) now (world team past) s.who y
+  changed : Change here x y → Holds (delivered team) now (world team past) s.who y
   changed (Change.Keep c) = no_line c.lines (more_same x.written.makes y.written.makes c.makes) (sends_more c.numbers) c.identity (λ i. ap is_informed c.belief ∙ i) (goes_same p.log y.process.log c.log) (ap (λ (l : Log). l.base) c.log)
   changed (Change.Give c) = still (ap (λ (w : Written). w.lines) c.written) (ap (λ (w : Written). w.makes) c.written) (ap (λ (w : Written). w.sends) c.written)
       (ap (λ (q : Process). q.identity) c.process) (ap (λ (q : Process). q.belief) c.process) (ap (λ (q : Process). q.log) c.process)

@@ -1,10 +1,10 @@
 -- What is told of one delivery, item by item, and where it stands.
-use Rattle.std.proofs.Common.{◌≡◌, refl, sym, ap, subst, ◌∙◌, inl, inr, ◌⊎◌, ℕ, zero, suc, ◌+◌, ◌-◌, ◌≤◌, ◌<◌, nat_le, Bool, true, false, cond, List, [], ◌∷◌, ◌++◌, map, length, filter, filter_map, Option, Some, None, arith}
+use Rattle.std.proofs.Common.{◌≡◌, refl, sym, ap, subst, ◌∙◌, inl, inr, ◌⊎◌, ℕ, zero, suc, ◌+◌, ◌-◌, ◌≤◌, ◌<◌, nat_le, Bool, true, false, cond, List, [], ◌∷◌, ◌++◌, map, length, filter, filter_map, Option, Some, None, arith, ◌↔◌}
 use Rattle.std.specs.Prelude.{slice_get, ◌&&◌, not}
 use Rattle.std.specs.List.{AllByRecursion, range_with_len, cons_option}
 use Rattle.std.specs.Option.{option_map, option_map_or}
-use Rattle.std.proofs.lemmas.Option.{slice_get-map}
-use Rattle.std.proofs.lemmas.Bool.{and_parts}
+use Rattle.std.proofs.lemmas.Option.{same_Some}
+use Rattle.std.proofs.lemmas.Bool.{and_parts, not-true}
 use Rattle.std.proofs.lemmas.Bool.Decides.{nat_tests}
 use Rattle.std.proofs.lemmas.List.{append_assoc}
 use Rattle.tw_types.specs.declared.team.Team.{Team}
@@ -19,15 +19,18 @@ use Rattle.tw_types.specs.Deliveries.{fulfils, positions_from, passes_at, may_pa
 use Rattle.tw_types.specs.Items.{In}
 use Rattle.tw_types.specs.Logs.{log_at, log_after}
 use Rattle.tw_types.specs.Updates.{is_weak, is_unordered, may_be_early}
+use Rattle.tw_types.proofs.Appended.{of_map, of_filter}
 use Rattle.tw_types.proofs.Delivered.{run_shape}
+use Rattle.tw_types.specs.declared.outputs.How.TheVariants.{Now, Earlier, Late}
 use Rattle.tw_machine.specs.Delivering.{delivered_at, earlies_told, all_told}
 use Rattle.tw_machine.specs.History.{Line, line_item, lines_on}
 use Rattle.tw_machine.specs.Run.{AtPass, AtEarly, AtWait, Delivered}
 use Rattle.tw_machine.proofs.Tables.{all_joined}
 use Rattle.safety_laws.specs.Beginnings.{unmarked}
 use Rattle.safety_laws.specs.Delivered.{PassedAbove, PassesAscend}
-use Rattle.safety_laws.proofs.Lists.{each_weaker}
-use Rattle.safety_laws.proofs.Marked.{OnlyDelivers}
+use Rattle.safety_laws.proofs.Lists.{each_weaker, each_from, of_filter_map, in_range}
+use Rattle.safety_laws.proofs.Marked.{OnlyDelivers, without_mark, listed_at, log_alike}
+use Rattle.safety_laws.proofs.Places.{at_in, at_more}
 
 -- ---- positions of a log
 
@@ -42,35 +45,13 @@ at_base log base i =
     let same : i - log.base ≡ i = omega (arith, base) in
     ap (λ b. cond b (slice_get log.entries (i - log.base)) None) low ∙ ap (slice_get log.entries) same
 
--- what stands in a list stands there without its mark
-pub without_mark : (xs : List Kept) (i : ℕ) (k : Kept) → slice_get xs i ≡ Some k → slice_get (map unmarked xs) i ≡ Some (unmarked k)
-without_mark xs i k is = slice_get-map unmarked xs i ∙ ap (option_map unmarked) is
-
--- and what stands there without a mark stands there with one or without
-with_mark : (xs : List Kept) (i : ℕ) (u : Kept) → slice_get (map unmarked xs) i ≡ Some u → (k : Kept) × (slice_get xs i ≡ Some k) × (unmarked k ≡ u)
-with_mark [] i u is = absurd (cc)
-with_mark (x ∷ xs) zero u is = (x, refl, cc)
-with_mark (x ∷ xs) (suc i) u is = with_mark xs i u is
-
--- it stands in the list
-pub get_in : (xs : List Kept) (i : ℕ) (k : Kept) → slice_get xs i ≡ Some k → In k xs
-get_in [] i k is = absurd (cc)
-get_in (x ∷ xs) zero k is = let same : x ≡ k = cc in inl (sym same)
-get_in (x ∷ xs) (suc i) k is = inr (get_in xs i k is)
-
--- and in a longer one
-pub get_more : (xs ys : List Kept) (i : ℕ) (k : Kept) → slice_get xs i ≡ Some k → slice_get (xs ++ ys) i ≡ Some k
-get_more [] ys i k is = absurd (cc)
-get_more (x ∷ xs) ys zero k is = is
-get_more (x ∷ xs) ys (suc i) k is = get_more xs ys i k is
-
 -- what stands at a position of a log is of its list
-pub at_in : (log : Log) (i : ℕ) (k : Kept) → log_at i log ≡ Some k → In k log.entries
-at_in log i k is = go (nat_le log.base i) is
-  where
-    go : (b : Bool) → cond b (slice_get log.entries (i - log.base)) None ≡ Some k → In k log.entries
-    go true is = get_in log.entries (i - log.base) k is
-    go false is = absurd (cc)
+pub listed_in : (log : Log) (i : ℕ) (k : Kept) → log_at i log ≡ Some k → In k log.entries
+listed_in log i k is = at_in log.entries (i - log.base) k (listed_at i log k is)
+
+-- what stands at a position of a log from its begin on stands there, without its mark, in the list that the log has but for marks
+pub stands_in : (log : Log) (list : List Kept) → log.base ≡ 0 → map unmarked log.entries ≡ list → (i : ℕ) (k : Kept) → log_at i log ≡ Some k → slice_get list i ≡ Some (unmarked k)
+stands_in log list base same i k is = ap (λ l. slice_get l i) (sym same) ∙ without_mark log.entries i k (sym (at_base log base i) ∙ is)
 
 -- A log goes on from another one: what stands there stands there again, but for marks, and no less of it is passed.
 pub record GoesOn (old new : Log) : Type 0 where
@@ -86,22 +67,26 @@ pub goes_after : (payloads : List Kept) (d : Decision) (log : Log) → GoesOn lo
 goes_after payloads d log = record { more = omega arith; at = λ i k is. (k, go i k (nat_le log.base i) is, refl) }
   where
     go : (i : ℕ) (k : Kept) (b : Bool) → cond b (slice_get log.entries (i - log.base)) None ≡ Some k → cond b (slice_get (log_after payloads d log).entries (i - log.base)) None ≡ Some k
-    go i k true is = get_more log.entries _ (i - log.base) k is
+    go i k true is = at_more log.entries _ (i - log.base) k is
     go i k false is = absurd (cc)
 
 -- and that after a delivery.
 pub goes_delivered : (old new : Log) → OnlyDelivers old new → GoesOn old new
-goes_delivered old new only = record { more = only.more; at = at }
-  where
-    found : (i : ℕ) (k : Kept) (b : Bool) → cond b (slice_get old.entries (i - old.base)) None ≡ Some k
-        → (there : Kept) × (cond b (slice_get new.entries (i - old.base)) None ≡ Some there) × (unmarked there ≡ unmarked k)
-    found i k true is = with_mark new.entries (i - old.base) (unmarked k) (ap (λ xs. slice_get xs (i - old.base)) only.entries ∙ without_mark old.entries (i - old.base) k is)
-    found i k false is = absurd (cc)
-
-    at : (i : ℕ) (k : Kept) → log_at i old ≡ Some k → (there : Kept) × (log_at i new ≡ Some there) × (unmarked there ≡ unmarked k)
-    at i k is = subst (λ b. (there : Kept) × (cond (nat_le b i) (slice_get new.entries (i - b)) None ≡ Some there) × (unmarked there ≡ unmarked k)) (sym only.base) (found i k (nat_le old.base i) is)
+goes_delivered old new only = record { more = only.more; at = log_alike old new only.base only.entries }
 
 -- ---- what is told
+
+-- only what is late is passed as such
+pub late_told : (k : Kept) → how_passed k ≡ Late ↔ k.entry.late ≡ true
+late_told k = by k.entry.late (is_unordered k.entry.order && k.early)
+  where
+    early_or_now : (early : Bool) → cond early Earlier Now ≡ Late → ⊥
+    early_or_now true e = absurd (cc)
+    early_or_now false e = absurd (cc)
+
+    by : (late early : Bool) → cond late Late (cond early Earlier Now) ≡ Late ↔ late ≡ true
+    by true early = ((λ e. refl), (λ e. refl))
+    by false early = ((λ e. absurd (early_or_now early e)), (λ e. absurd (cc)))
 
 -- a pass is of the update at its position, which may pass, and is below the new cursor
 pub record IsToldPass (team : Team) (d : Decision) (log : Log) (end position : ℕ) (how : How) (update : Kept) : Type 0 where
@@ -152,124 +137,137 @@ there_of_may team d log i may = go (log_at i log) refl may
     go None is e = absurd (cc)
     go (Some k) is e = (k, is, e)
 
--- of one pass: its update stands there, may pass, and is below the new cursor
-one_told : (team : Team) (d : Decision) (log : Log) (end : ℕ) (pending : List Kept) (i : ℕ) (k : Kept) → log_at i log ≡ Some k → passes_at team d i k ≡ true → i < end → IsTold team d log end pending (delivered_at d (AtPass i (how_passed k)) k)
-one_told team d log end pending i k is may below = record {
-  group = refl;
-  turn = refl;
-  passed = λ position how e. let same = same_pass i position (how_passed k) how e in record {
-    there = subst (λ n. log_at n log ≡ Some k) same.0 is;
-    told = sym same.1;
-    may = subst (λ n. passes_at team d n k ≡ true) same.0 may;
-    below = subst (λ n. n < end) same.0 below;
-  };
-  early = λ position e. absurd (cc);
-  waited = λ e. absurd (cc);
-  source = k;
-  from = inl (at_in log i k is);
-  same = refl;
-}
-
--- of each pass, where each position may pass
-range_told : (team : Team) (d : Decision) (log : Log) (end : ℕ) (pending : List Kept) (count first : ℕ) → first + count ≤ end → ((i : ℕ) → first ≤ i → i < first + count → may_pass team d log i ≡ true)
-    → AllByRecursion (IsTold team d log end pending) (told_range d log first count)
-range_told team d log end pending zero first within may = tt
-range_told team d log end pending (suc count) first within may =
-    let one = there_of_may team d log first (may first (omega arith) (omega arith)) in
-    subst (AllByRecursion (IsTold team d log end pending)) (sym (told_cons d log first count one.0 one.1)) (
-      one_told team d log end pending first one.0 one.1 one.2 (omega (arith, within)),
-      range_told team d log end pending count (first + 1) (omega (arith, within)) (λ i low high. may i (omega (arith, low)) (omega (arith, high))),
-    )
-
--- ---- early ones
-
--- of each early one of the list, at these positions
-early_told : (team : Team) (d : Decision) (log new : Log) (end : ℕ) (pending : List Kept) → ((i : ℕ) → log_at i new ≡ log_at i log) → (positions : List ℕ)
-    → AllByRecursion (IsTold team d log end pending) (filter_map (λ (i : ℕ). option_map (λ (k : Kept). delivered_at d (AtEarly i) (as_early k)) (log_at i new)) (filter (may_go_early team d new) positions))
-early_told team d log new end pending same [] = tt
-early_told team d log new end pending same (i ∷ positions) = go (may_go_early team d new i) refl (early_told team d log new end pending same positions)
-  where
-    told : ℕ → Option Delivered
-    told i = option_map (λ (k : Kept). delivered_at d (AtEarly i) (as_early k)) (log_at i new)
-
-    one : (k : Kept) → log_at i new ≡ Some k → early_at team d i k ≡ true → IsTold team d log end pending (delivered_at d (AtEarly i) (as_early k))
-    one k is e =
-        let two = and_parts (is_unordered k.entry.order && not k.early) (fulfils team d i k.entry.atom) e in
-        let first = and_parts (is_unordered k.entry.order) (not k.early) two.0 in
-        let there : log_at i log ≡ Some k = sym (same i) ∙ is in
-        record {
-          group = refl;
-          turn = refl;
-          passed = λ position how e. absurd (cc);
-          early = λ position e. let at : i ≡ position = cc in record {
-            old = k;
-            there = subst (λ n. log_at n log ≡ Some k) at there;
-            same = refl;
-            unordered = first.0;
-            fulfilled = subst (λ n. fulfils team d n k.entry.atom ≡ true) at two.1;
-          };
-          waited = λ e. absurd (cc);
-          source = k;
-          from = inl (at_in log i k there);
-          same = refl;
-        }
-
-    by : (o : Option Kept) → log_at i new ≡ o → option_map_or (early_at team d i) o false ≡ true → (rest : List Delivered) → AllByRecursion (IsTold team d log end pending) rest
-        → AllByRecursion (IsTold team d log end pending) (cons_option (option_map (λ (k : Kept). delivered_at d (AtEarly i) (as_early k)) o) rest)
-    by None is e rest all = absurd (cc)
-    by (Some k) is e rest all = (one k is e, all)
-
-    go : (b : Bool) → may_go_early team d new i ≡ b
-        → AllByRecursion (IsTold team d log end pending) (filter_map (λ (i : ℕ). option_map (λ (k : Kept). delivered_at d (AtEarly i) (as_early k)) (log_at i new)) (filter (may_go_early team d new) positions))
-        → AllByRecursion (IsTold team d log end pending) (filter_map (λ (i : ℕ). option_map (λ (k : Kept). delivered_at d (AtEarly i) (as_early k)) (log_at i new)) (cond b (i ∷ filter (may_go_early team d new) positions) (filter (may_go_early team d new) positions)))
-    go true e all = by (log_at i new) refl e _ all
-    go false e all = all
-
--- ---- what waited
-
--- of each one that waited
-waits_told : (team : Team) (d : Decision) (log : Log) (end : ℕ) (pending xs : List Kept) → ((k : Kept) → In k xs → In k pending)
-    → AllByRecursion (IsTold team d log end pending) (map (delivered_at d AtWait) (weaks xs))
-waits_told team d log end pending [] within = tt
-waits_told team d log end pending (k ∷ xs) within = go (may_be_early k) refl (waits_told team d log end pending xs (λ z i. within z (inr i)))
-  where
-    go : (b : Bool) → may_be_early k ≡ b → AllByRecursion (IsTold team d log end pending) (map (delivered_at d AtWait) (weaks xs))
-        → AllByRecursion (IsTold team d log end pending) (map (delivered_at d AtWait) (map as_early (cond b (k ∷ filter may_be_early xs) (filter may_be_early xs))))
-    go true e all =
-        let two = and_parts (is_weak k.entry.atom && is_unordered k.entry.order) (not k.early) e in
-        let first = and_parts (is_weak k.entry.atom) (is_unordered k.entry.order) two.0 in (
-          record {
-            group = refl;
-            turn = refl;
-            passed = λ position how e. absurd (cc);
-            early = λ position e. absurd (cc);
-            waited = λ e. (first.1, first.0);
-            source = k;
-            from = inr (within k (inl refl));
-            same = refl;
-          },
-          all,
-        )
-    go false e all = all
-
--- ---- all of it
-
 -- the passes are of the neighbours from the cursor on
 pub passes_range : (team : Team) (d : Decision) (log : Log) → map (λ (p : Pass). delivered_at d (AtPass p.position p.how) p.kept) (passes team d log) ≡ told_range d log log.passed (length (run team d log))
 unfolding passes
 passes_range team d log = ap (λ r. map (λ (p : Pass). delivered_at d (AtPass p.position p.how) p.kept) (filter_map (λ (i : ℕ). option_map (pass_of i) (log_at i log)) r)) (run_shape team d log).neighbours
 
+-- ---- all of it
+
+-- what holds of each early one of the list, at these positions
+each_early : (P : Delivered → Type 0) (d : Decision) (log : Log) (positions : List ℕ) → ((i : ℕ) (k : Kept) → In i positions → log_at i log ≡ Some k → P (delivered_at d (AtEarly i) (as_early k)))
+    → AllByRecursion P (filter_map (λ (i : ℕ). option_map (λ (k : Kept). delivered_at d (AtEarly i) (as_early k)) (log_at i log)) positions)
+each_early P d log positions early = each_from P (filter_map told positions) (λ z j. let i = of_filter_map told positions z j in go z i.0 i.1 (log_at i.0 log) refl i.2)
+  where
+    told : ℕ → Option Delivered
+    told i = option_map (λ (k : Kept). delivered_at d (AtEarly i) (as_early k)) (log_at i log)
+
+    go : (z : Delivered) (i : ℕ) → In i positions → (o : Option Kept) → log_at i log ≡ o → option_map (λ (k : Kept). delivered_at d (AtEarly i) (as_early k)) o ≡ Some z → P z
+    go z i j None is e = absurd (cc)
+    go z i j (Some k) is e = subst P (same_Some (delivered_at d (AtEarly i) (as_early k)) z e) (early i k j is)
+
+-- and of each one that waited
+pub each_waiting : (P : Delivered → Type 0) (d : Decision) (pending : List Kept) → ((k : Kept) → In k pending → may_be_early k ≡ true → P (delivered_at d AtWait (as_early k)))
+    → AllByRecursion P (map (delivered_at d AtWait) (weaks pending))
+each_waiting P d pending wait = each_from P (map (delivered_at d AtWait) (weaks pending)) (λ z i.
+    let w = of_map (delivered_at d AtWait) (weaks pending) z i in
+    let k = of_map as_early (filter may_be_early pending) w.0 w.1 in
+    let f = of_filter may_be_early pending k.0 k.1 in
+    subst P (sym w.2) (subst (λ (u : Kept). P (delivered_at d AtWait u)) (sym k.2) (wait k.0 f.0 f.1)))
+
+-- What holds of each pass, of each early one of the list, and of each one that waited holds of all that is told of what is delivered.
+pub each_told : (P : Delivered → Type 0) (team : Team) (d : Decision) (log : Log) (pending : List Kept)
+    → ((i : ℕ) (k : Kept) → log_at i log ≡ Some k → passes_at team d i k ≡ true → i < (run_passed team d log).passed → P (delivered_at d (AtPass i (how_passed k)) k))
+    → ((i : ℕ) (k : Kept) → In i (early_positions team d (run_passed team d log).passed (run_passed team d log)) → log_at i log ≡ Some k → early_at team d i k ≡ true → P (delivered_at d (AtEarly i) (as_early k)))
+    → ((k : Kept) → In k pending → may_be_early k ≡ true → P (delivered_at d AtWait (as_early k)))
+    → AllByRecursion P (all_told team d log pending)
+unfolding run_passed
+each_told P team d log pending pass early wait =
+    all_joined P (map told (passes team d log) ++ earlies_told team d (run_passed team d log).passed (run_passed team d log)) (map (delivered_at d AtWait) (weaks pending))
+    (all_joined P (map told (passes team d log)) (earlies_told team d (run_passed team d log).passed (run_passed team d log)) (each_from P (map told (passes team d log)) of_pass)
+    (each_early P d (run_passed team d log) (early_positions team d (run_passed team d log).passed (run_passed team d log)) of_early))
+    (each_waiting P d pending wait)
+  where
+    told : Pass → Delivered
+    told p = delivered_at d (AtPass p.position p.how) p.kept
+
+    neighbours : List ℕ
+    neighbours = range_with_len log.passed (length (run team d log))
+
+    one_pass : (i : ℕ) (p : Pass) → In i neighbours → option_map (pass_of i) (log_at i log) ≡ Some p → P (told p)
+    one_pass i p j e =
+        let range = in_range log.passed (length (run team d log)) i j in
+        let k = there_of_may team d log i ((run_shape team d log).each i range.0 range.1) in
+        subst (λ (q : Pass). P (told q)) (same_Some (pass_of i k.0) p (sym (ap (option_map (pass_of i)) k.1) ∙ e)) (pass i k.0 k.1 k.2 range.1)
+
+    of_pass : (z : Delivered) → In z (map told (passes team d log)) → P z
+    of_pass z i =
+        let p = of_map told (filter_map (λ (i : ℕ). option_map (pass_of i) (log_at i log)) neighbours) z (subst (In z) (passes_range team d log) i) in
+        let n = of_filter_map (λ (i : ℕ). option_map (pass_of i) (log_at i log)) neighbours p.0 p.1 in
+        subst P (sym p.2) (one_pass n.0 p.0 n.1 n.2)
+
+    of_early : (i : ℕ) (k : Kept) → In i (early_positions team d (run_passed team d log).passed (run_passed team d log)) → log_at i log ≡ Some k → P (delivered_at d (AtEarly i) (as_early k))
+    of_early i k j is =
+        let test = (of_filter (may_go_early team d (run_passed team d log)) (positions_from (run_passed team d log).passed (run_passed team d log)) i j).1 in
+        early i k j is (sym (ap (λ o. option_map_or (early_at team d i) o false) is) ∙ test)
+
+-- what goes early from its position is unordered, has no mark, and is fulfilled there
+pub early_tests : (team : Team) (d : Decision) (i : ℕ) (k : Kept) → early_at team d i k ≡ true → (is_unordered k.entry.order ≡ true) × (k.early ≡ false) × (fulfils team d i k.entry.atom ≡ true)
+early_tests team d i k e =
+    let two = and_parts (is_unordered k.entry.order && not k.early) (fulfils team d i k.entry.atom) e in
+    let first = and_parts (is_unordered k.entry.order) (not k.early) two.0 in
+    (first.0, not-true k.early first.1, two.1)
+
+-- and what goes early while it waits is weak and unordered, and has no mark
+pub waiting_tests : (k : Kept) → may_be_early k ≡ true → (is_weak k.entry.atom ≡ true) × (is_unordered k.entry.order ≡ true) × (k.early ≡ false)
+waiting_tests k e =
+    let two = and_parts (is_weak k.entry.atom && is_unordered k.entry.order) (not k.early) e in
+    let first = and_parts (is_weak k.entry.atom) (is_unordered k.entry.order) two.0 in
+    (first.0, first.1, not-true k.early two.1)
+
 -- what is told of all that is delivered
 pub all_are_told : (team : Team) (d : Decision) (log : Log) (pending : List Kept) → AllByRecursion (IsTold team d log (run_passed team d log).passed pending) (all_told team d log pending)
-unfolding run_passed
-all_are_told team d log pending =
-    let end : ℕ = log.passed + length (run team d log) in
-    let shape = run_shape team d log in
-    all_joined (IsTold team d log end pending) (map (λ (p : Pass). delivered_at d (AtPass p.position p.how) p.kept) (passes team d log) ++ earlies_told team d end (run_passed team d log)) (map (delivered_at d AtWait) (weaks pending))
-    (all_joined (IsTold team d log end pending) (map (λ (p : Pass). delivered_at d (AtPass p.position p.how) p.kept) (passes team d log)) (earlies_told team d end (run_passed team d log))
-    (subst (AllByRecursion (IsTold team d log end pending)) (sym (passes_range team d log)) (range_told team d log end pending (length (run team d log)) log.passed (omega arith) shape.each))
-    (early_told team d log (run_passed team d log) end pending (λ i. refl) (positions_from end (run_passed team d log))))
-    (waits_told team d log end pending pending (λ k i. i))
+all_are_told team d log pending = each_told (IsTold team d log end pending) team d log pending one_told early_told waiting_told
+  where
+    end : ℕ
+    end = (run_passed team d log).passed
+
+    one_told : (i : ℕ) (k : Kept) → log_at i log ≡ Some k → passes_at team d i k ≡ true → i < end → IsTold team d log end pending (delivered_at d (AtPass i (how_passed k)) k)
+    one_told i k is may below = record {
+      group = refl;
+      turn = refl;
+      passed = λ position how e. let same = same_pass i position (how_passed k) how e in record {
+        there = subst (λ n. log_at n log ≡ Some k) same.0 is;
+        told = sym same.1;
+        may = subst (λ n. passes_at team d n k ≡ true) same.0 may;
+        below = subst (λ n. n < end) same.0 below;
+      };
+      early = λ position e. absurd (cc);
+      waited = λ e. absurd (cc);
+      source = k;
+      from = inl (listed_in log i k is);
+      same = refl;
+    }
+
+    early_told : (i : ℕ) (k : Kept) → In i (early_positions team d end (run_passed team d log)) → log_at i log ≡ Some k → early_at team d i k ≡ true → IsTold team d log end pending (delivered_at d (AtEarly i) (as_early k))
+    early_told i k j is e = let tests = early_tests team d i k e in record {
+      group = refl;
+      turn = refl;
+      passed = λ position how e. absurd (cc);
+      early = λ position e. let at : i ≡ position = cc in record {
+        old = k;
+        there = subst (λ n. log_at n log ≡ Some k) at is;
+        same = refl;
+        unordered = tests.0;
+        fulfilled = subst (λ n. fulfils team d n k.entry.atom ≡ true) at tests.2;
+      };
+      waited = λ e. absurd (cc);
+      source = k;
+      from = inl (listed_in log i k is);
+      same = refl;
+    }
+
+    waiting_told : (k : Kept) → In k pending → may_be_early k ≡ true → IsTold team d log end pending (delivered_at d AtWait (as_early k))
+    waiting_told k i e = let tests = waiting_tests k e in record {
+      group = refl;
+      turn = refl;
+      passed = λ position how e. absurd (cc);
+      early = λ position e. absurd (cc);
+      waited = λ e. (tests.1, tests.0);
+      source = k;
+      from = inr i;
+      same = refl;
+    }
 
 -- ---- in ascent
 
@@ -278,7 +276,7 @@ abbrev IsNoPass : Delivered → Type 0
 IsNoPass z = (i : ℕ) (how : How) → z.place ≡ AtPass i how → ⊥
 
 -- passes go up from this position on
-abbrev pub GoUp : ℕ → List Delivered → Type 0
+abbrev GoUp : ℕ → List Delivered → Type 0
 GoUp from [] = Unit {0}
 GoUp from (z ∷ zs) = (to : ℕ) × (from ≤ to) × ((i : ℕ) (how : How) → z.place ≡ AtPass i how → (from ≤ i) × (i < to)) × GoUp to zs
 
@@ -300,20 +298,6 @@ up_range team d log (suc count) first rest may none =
       up_range team d log count (first + 1) rest (λ i low high. may i (omega (arith, low)) (omega (arith, high))) none,
     )
 
--- early ones are no passes
-early_none : (d : Decision) (log : Log) (positions : List ℕ) → AllByRecursion IsNoPass (filter_map (λ (i : ℕ). option_map (λ (k : Kept). delivered_at d (AtEarly i) (as_early k)) (log_at i log)) positions)
-early_none d log [] = tt
-early_none d log (i ∷ positions) = go (log_at i log) _ (early_none d log positions)
-  where
-    go : (o : Option Kept) → (rest : List Delivered) → AllByRecursion IsNoPass rest → AllByRecursion IsNoPass (cons_option (option_map (λ (k : Kept). delivered_at d (AtEarly i) (as_early k)) o) rest)
-    go None rest all = all
-    go (Some k) rest all = (λ j how e. absurd (cc), all)
-
--- nor are those that waited
-waits_none : (d : Decision) (ks : List Kept) → AllByRecursion IsNoPass (map (delivered_at d AtWait) ks)
-waits_none d [] = tt
-waits_none d (k ∷ ks) = (λ j how e. absurd (cc), waits_none d ks)
-
 -- from the cursor on
 pub all_go_up : (team : Team) (d : Decision) (log : Log) (pending : List Kept) → GoUp log.passed (all_told team d log pending)
 all_go_up team d log pending =
@@ -323,7 +307,8 @@ all_go_up team d log pending =
     subst (GoUp log.passed) (sym (append_assoc passed early waiting))
     (subst (λ zs. GoUp log.passed (zs ++ (early ++ waiting))) (sym (passes_range team d log))
     (up_range team d log (length (run team d log)) log.passed (early ++ waiting) (run_shape team d log).each
-    (all_joined IsNoPass early waiting (early_none d (run_passed team d log) (early_positions team d (run_passed team d log).passed (run_passed team d log))) (waits_none d (weaks pending)))))
+    (all_joined IsNoPass early waiting
+    (each_early IsNoPass d (run_passed team d log) (early_positions team d (run_passed team d log).passed (run_passed team d log)) (λ i k j is n how e. absurd (cc))) (each_waiting IsNoPass d pending (λ k j early n how e. absurd (cc))))))
 
 -- ---- lines
 

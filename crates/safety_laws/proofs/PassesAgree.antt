@@ -1,10 +1,10 @@
 -- Where two rows have one group, what their processes passed so far agrees at each position.
-use Rattle.std.proofs.Common.{◌≡◌, ◌↔◌, refl, sym, ap, subst, ◌∙◌, ℕ, ◌≤◌, ◌<◌, Bool, true, false, cond, ◌&&◌, List, [], ◌∷◌, ◌++◌, map, length, Option, Some, None, slice_get, arith}
+use Rattle.std.proofs.Common.{◌≡◌, ◌↔◌, refl, sym, ap, subst, ◌∙◌, ℕ, ◌≤◌, ◌<◌, true, List, [], ◌∷◌, ◌++◌, map, length, Option, Some, None, slice_get, arith}
 use Rattle.std.proofs.lemmas.Option.{slice_get_within}
 use Rattle.tw_types.specs.declared.message.Decision.{Decision}
 use Rattle.tw_types.specs.declared.message.Kept.{Kept}
 use Rattle.tw_types.specs.declared.outputs.How.{How}
-use Rattle.tw_types.specs.declared.outputs.How.TheVariants.{Now, Earlier, Late}
+use Rattle.tw_types.specs.declared.outputs.How.TheVariants.{Late}
 use Rattle.tw_types.specs.declared.step.Step.{Step}
 use Rattle.tw_types.specs.declared.team.Team.{Team}
 use Rattle.tw_types.specs.Decisions.{or_none}
@@ -14,9 +14,8 @@ use Rattle.tw_types.specs.Printed.{update_printed}
 use Rattle.tw_types.specs.Process.{Process}
 use Rattle.tw_types.specs.Row.{Pass, Row}
 use Rattle.tw_types.specs.Team.{IsSound}
-use Rattle.tw_types.specs.Updates.{is_unordered}
 use Rattle.tw_machine.specs.Applied.{Meaning}
-use Rattle.tw_machine.specs.History.{Line, Make, list_of, history}
+use Rattle.tw_machine.specs.History.{Line, Make, history}
 use Rattle.tw_machine.specs.Places.{Each}
 use Rattle.tw_machine.specs.Rows.{columns, row_of, rows_of}
 use Rattle.tw_machine.specs.SafeRows.{life_of, EachPassSoFar, Agree}
@@ -30,14 +29,15 @@ use Rattle.safety_laws.specs.Made.{WasMade}
 use Rattle.safety_laws.proofs.Begun.{have_lists}
 use Rattle.safety_laws.proofs.ClockLaw.{own_after}
 use Rattle.safety_laws.proofs.DeliveryLaws.{with_delivered, delivered_well}
+use Rattle.safety_laws.proofs.FirstDecisions.{one_member}
 use Rattle.safety_laws.proofs.Induction.{earlier}
 use Rattle.safety_laws.proofs.LinesOfRows.{IsPassOf, pass_told}
 use Rattle.safety_laws.proofs.Lists.{of_each}
-use Rattle.safety_laws.proofs.MadeLists.{More, viewed, last_made, has_last}
-use Rattle.safety_laws.proofs.Passed.{whole_list}
-use Rattle.safety_laws.proofs.PassedLists.{at_base, without_mark}
+use Rattle.safety_laws.proofs.MadeLists.{More, last_made, some_last}
+use Rattle.safety_laws.proofs.Passed.{own_list, passed_in}
+use Rattle.safety_laws.proofs.PassedLists.{late_told}
 use Rattle.safety_laws.proofs.Positions.{same_there}
-use Rattle.safety_laws.proofs.Prefixes.{HaveLists, list_of_made}
+use Rattle.safety_laws.proofs.Prefixes.{HaveLists}
 use Rattle.safety_laws.proofs.Places.{each_pushed}
 use Rattle.safety_laws.proofs.Stack.{Kept as Holding}
 use Rattle.safety_laws.proofs.TablesOf.{makes_more}
@@ -51,24 +51,12 @@ pub record HasPass (list : List Kept) (p : Pass) : Type 0 where
   pub update : p.update ≡ update_printed there
   pub late : p.how ≡ Late ↔ there.entry.late ≡ true
 
--- only what is late is passed as such
-late_told : (k : Kept) → how_passed k ≡ Late ↔ k.entry.late ≡ true
-late_told k = by k.entry.late (is_unordered k.entry.order && k.early)
-  where
-    early_or_now : (early : Bool) → cond early Earlier Now ≡ Late → ⊥
-    early_or_now true e = absurd (cc)
-    early_or_now false e = absurd (cc)
-
-    by : (late early : Bool) → cond late Late (cond early Earlier Now) ≡ Late ↔ late ≡ true
-    by true early = ((λ e. refl), (λ e. refl))
-    by false early = ((λ e. absurd (early_or_now early e)), (λ e. absurd (cc)))
-
 -- a pass in a list that has there what the line of the pass tells
 pub has_pass : (list : List Kept) (r : Row) (p : Pass) (x : Line) → IsPassOf r p x → slice_get list p.position ≡ Some (unmarked x.delivered.update) → p.how ≡ how_passed x.delivered.update → HasPass list p
 has_pass list r p x is at how = record {
   there = unmarked x.delivered.update;
   at = at;
-  update = is.update;
+  update = sym is.update;
   late = subst (λ (h : How). h ≡ Late ↔ x.delivered.update.entry.late ≡ true) (sym how) (late_told x.delivered.update);
 }
 
@@ -113,11 +101,9 @@ record RunsIn (team : Team) (h : ℕ) (before o : Option Process) : Type 0 where
 
 runs_in : (team : Team) (h : ℕ) (before o : Option Process) → 1 ≤ (columns team h before o).group → RunsIn team h before o
 runs_in team h before None some = absurd (omega (arith, some))
-runs_in team h before (Some q) some = by (last_decision q) refl
-  where
-    by : (last : Option Decision) → last_decision q ≡ last → RunsIn team h before (Some q)
-    by None is = let none : (or_none (last_decision q)).group ≡ 0 = ap (λ (d : Option Decision). (or_none d).group) is in absurd (omega (arith, some, none))
-    by (Some d) is = record { process = q; last = d; runs = refl; last_is = is; group = ap (λ (o : Option Decision). (or_none o).group) (sym is); incarnation = refl }
+runs_in team h before (Some q) some =
+    let last = some_last (last_decision q) some in
+    record { process = q; last = last.0; runs = refl; last_is = last.1; group = ap (λ (o : Option Decision). (or_none o).group) (sym last.1); incarnation = refl }
 
 module _ {Content : Type 0} (meaning : Meaning Content) (team : Team) (past : List Step) (s : Step) (sound : IsSound team) (ok : Admissible team (s ∷ past)) where
   -- all rows, with that of the step
@@ -151,24 +137,15 @@ module _ {Content : Type 0} (meaning : Meaning Content) (team : Team) (past : Li
 
     -- and has its list
     list_is : map unmarked k.process.log.entries ≡ was.0.log
-    list_is =
-        let own = all.running s.who k.process runs_then in
-        whole_list (history team (s ∷ past)).makes k.process was.0.log own.1.base own.0.1.1 (has_last k.process k.last k.last_is)
-        (ap (list_of (history team (s ∷ past)).makes) (viewed k.process.belief k.last k.last_is) ∙ list_of_made (history team (s ∷ past)).makes groups.once k.last was)
+    list_is = let own = all.running s.who k.process runs_then in own_list (history team (s ∷ past)).makes k.process k.last groups.once own.1.base own.0.1.1 k.last_is was
 
     -- the row prints the process's life
     life_is : life_of last_row ≡ member_of k.process.identity
-    life_is =
-        ap (λ (n : ℕ). record { who = s.who; incarnation = n }) (sym k.incarnation)
-        ∙ ap (λ (w : ℕ). record { who = w; incarnation = k.process.identity.incarnation }) (sym mine.promiser.own.is)
+    life_is = one_member (life_of last_row) (member_of k.process.identity) (sym mine.promiser.own.is) (sym k.incarnation)
 
     -- what it passed stands in the list of its last decision
     in_list : (position : ℕ) (update : Kept) → StandsPassed k.process position update → slice_get was.0.log position ≡ Some (unmarked update)
-    in_list position update stands =
-        let base = (all.running s.who k.process runs_then).1.base in
-        ap (λ l. slice_get l position) (sym list_is)
-        ∙ without_mark k.process.log.entries position stands.there (sym (at_base k.process.log base position) ∙ stands.at)
-        ∙ ap Some stands.same
+    in_list = passed_in k.process was.0.log (all.running s.who k.process runs_then).1.base list_is
 
     -- a pass of the process in its present life, by the line that tells it
     line_has : (r : Row) (p : Pass) (x : Line) → life_of r ≡ life_of last_row → In x (history team (s ∷ past)).lines → IsPassOf r p x → HasPass was.0.log p

@@ -3,7 +3,6 @@
 use Rattle.std.proofs.Common.{◌≡◌, refl, sym, ap, subst, ◌∙◌, inl, inr, ◌⊎◌, ℕ, zero, suc, ◌+◌, ◌/◌, ◌≤◌, ◌<◌, Bool, true, false, cond, List, [], ◌∷◌, map, filter, length, take, Some, slice_get, count_by, arith}
 use Rattle.std.specs.List.{AllByRecursion, range_with_len}
 use Rattle.std.proofs.lemmas.Bool.{cases_lt}
-use Rattle.std.proofs.lemmas.Bool.Decides.{nat_tests}
 use Rattle.std.proofs.lemmas.Option.{same_Some}
 use Rattle.tw_types.specs.declared.message.Kept.{Kept}
 use Rattle.tw_types.specs.declared.message.Member.{Member}
@@ -17,9 +16,10 @@ use Rattle.safety_laws.specs.Acknowledged.{has_acked}
 use Rattle.safety_laws.specs.Beginnings.{IsBeginning}
 use Rattle.safety_laws.specs.Lists.{seqs_of, GoByOne, IsListOf}
 use Rattle.safety_laws.proofs.Acknowledged.{acked_last}
+use Rattle.safety_laws.proofs.FirstDecisions.{same_member}
 use Rattle.safety_laws.proofs.Groups.{has_first}
-use Rattle.safety_laws.proofs.PassedLists.{get_more}
-use Rattle.safety_laws.proofs.Prefixes.{HaveLists, extend, take_begins}
+use Rattle.safety_laws.proofs.Places.{at_more}
+use Rattle.safety_laws.proofs.Prefixes.{HaveLists, extend, take_begins, one_begins}
 use Rattle.safety_laws.proofs.Quorums.{Agree}
 
 -- ---- an id stands at one position
@@ -27,9 +27,6 @@ use Rattle.safety_laws.proofs.Quorums.{Agree}
 -- the numbers of a member go by one from this one on
 abbrev GoFrom : ℕ → Member → List Kept → Type 0
 GoFrom from member list = seqs_of member list ≡ range_with_len from (length (seqs_of member list))
-
-same_member : (m : Member) → is_same_member m m ≡ true
-same_member m = grind (arith, nat_tests)
 
 -- they begin with that of the member's first update, and go on behind it
 behind_own : (from : ℕ) (member : Member) (k : Kept) (xs : List Kept) → is_same_member (sender k.entry.id) member ≡ true → GoFrom from member (k ∷ xs) → (k.entry.id.seq ≡ from) × GoFrom (from + 1) member xs
@@ -89,8 +86,8 @@ one_position list i j k l go at at' same = one_from 1 l.entry.id list i j k l (g
 -- ---- lists that begin others
 
 -- what stands in a list stands there in each that it begins
-pub begins_at : (xs ys : List Kept) (i : ℕ) (k : Kept) → IsBeginning xs ys → slice_get xs i ≡ Some k → slice_get ys i ≡ Some k
-begins_at xs ys i k begins at = ap (λ l. slice_get l i) begins.1 ∙ get_more xs begins.0 i k at
+begins_at : (xs ys : List Kept) (i : ℕ) (k : Kept) → IsBeginning xs ys → slice_get xs i ≡ Some k → slice_get ys i ≡ Some k
+begins_at xs ys i k begins at = ap (λ l. slice_get l i) begins.1 ∙ at_more xs begins.0 i k at
 
 -- and among the first items of it
 first_at : (xs : List Kept) (i : ℕ) (k : Kept) → slice_get xs i ≡ Some k → slice_get (take (suc i) xs) i ≡ Some k
@@ -116,17 +113,9 @@ kept_position list other i j k l (There there) go go' at at' same = one_position
 -- ---- lists of groups
 
 module _ (team : Team) (promises : List Promised) (makes : List Make) (lists : HaveLists team promises makes) where
-  -- of two lists of one group one begins the other
-  one_begins : (a b : Make) → In a makes → In b makes → a.making.decision.group ≡ b.making.decision.group → IsBeginning a.log b.log ⊎ IsBeginning b.log a.log
-  one_begins a b i j group = by (cases_lt a.making.decision.turn b.making.decision.turn)
-    where
-      by : (a.making.decision.turn < b.making.decision.turn) ⊎ (b.making.decision.turn ≤ a.making.decision.turn) → IsBeginning a.log b.log ⊎ IsBeginning b.log a.log
-      by (inl less) = inl (extend team promises makes lists a b i j group (omega (arith, less)))
-      by (inr less) = inr (extend team promises makes lists b a j i (sym group) less)
-
   -- Lists of one group have the same at each position that both have.
   pub same_there : (a b : Make) → In a makes → In b makes → a.making.decision.group ≡ b.making.decision.group → (i : ℕ) (k l : Kept) → slice_get a.log i ≡ Some k → slice_get b.log i ≡ Some l → k ≡ l
-  same_there a b m n group i k l at at' = by (one_begins a b m n group)
+  same_there a b m n group i k l at at' = by (one_begins team promises makes lists a b m n group)
     where
       by : IsBeginning a.log b.log ⊎ IsBeginning b.log a.log → k ≡ l
       by (inl begins) = same_Some k l (sym (begins_at a.log b.log i k begins at) ∙ at')
@@ -150,4 +139,4 @@ module _ (team : Team) (promises : List Promised) (makes : List Make) (lists : H
           let there : slice_get (take (suc i) h.first.log) i ≡ Some k = ap (λ l. slice_get l i) firsts.1 ∙ first_at m.log i k at in
           There (begins_at h.first.log later.log i k (extend team promises makes lists h.first later h.among b h.group (omega (arith, start)))
           (begins_at (take (suc i) h.first.log) h.first.log i k (take_begins (suc i) h.first.log) there))
-      by (inr high) = own (one_begins m later a b (omega (arith, low, high)))
+      by (inr high) = own (one_begins team promises makes lists m later a b (omega (arith, low, high)))

@@ -87,7 +87,7 @@ module _ (team : Team) (past : List Step) (s : Step) (here : Here) (x y : State)
           positive : 1 ≤ c.making.decision.group
           positive = (subst (λ ms. AllByRecursion (λ (m : items.Make). 1 ≤ m.making.decision.group) ms) (ap (λ (w : Written). w.makes) c.written) (all_positive team y.written.promises y.written.makes after.history.0.1.arise)).0
 
-  pub precede_changes : AllByRecursion (PrecedeIt team x.written.makes) x.written.promises → AllByRecursion (PrecedeIt team y.written.makes) y.written.promises
+  precede_changes : AllByRecursion (PrecedeIt team x.written.makes) x.written.promises → AllByRecursion (PrecedeIt team y.written.makes) y.written.promises
   precede_changes all = go (grown here x y change)
     where
       go : Grown here x y → AllByRecursion (PrecedeIt team y.written.makes) y.written.promises

@@ -1,9 +1,10 @@
 -- The lists of made decisions, by what they stand on: those of one group extend each other.
-use Rattle.std.proofs.Common.{◌≡◌, refl, sym, ap, subst, ◌∙◌, inl, inr, ℕ, zero, suc, ◌+◌, ◌≤◌, ◌<◌, ◌-◌, ◌==◌, ◌&&◌, Bool, true, false, cond, List, [], ◌∷◌, ◌++◌, length, take, drop, find, Option, Some, None, arith}
+use Rattle.std.proofs.Common.{◌≡◌, refl, sym, ap, subst, ◌∙◌, inl, inr, ℕ, zero, suc, ◌+◌, ◌≤◌, ◌<◌, ◌-◌, ◌==◌, ◌&&◌, Bool, true, List, [], ◌∷◌, ◌++◌, length, take, drop, find, Option, Some, None, arith, ◌⊎◌}
+use Rattle.std.specs.List.{AllByRecursion}
 use Rattle.std.specs.Option.{option_map_or}
 use Rattle.std.proofs.lemmas.Bool.Decides.{nat_tests}
-use Rattle.std.proofs.lemmas.List.{append_assoc, append-nil, length-append, length-take-le, take-append-drop, take-append-le}
-use Rattle.std.proofs.Math.Seq.{take-append_seam}
+use Rattle.std.proofs.lemmas.Bool.{cases_lt}
+use Rattle.std.proofs.lemmas.List.{append_assoc, append-nil, length-append, take-append-drop, take-append-le}
 use Rattle.tw_types.specs.declared.team.Team.{Team}
 use Rattle.tw_types.specs.declared.message.Decision.{Decision}
 use Rattle.tw_types.specs.declared.message.Kept.{Kept}
@@ -14,17 +15,14 @@ use Rattle.safety_laws.specs.Lists.{AllListed}
 use Rattle.safety_laws.specs.Made.{WasMade, WasMadeIfAny, Arises, AsFirst, AsNext, AllArise}
 use Rattle.safety_laws.specs.Once.{AllOnce}
 use Rattle.safety_laws.proofs.Groups.{comes_at}
-use Rattle.safety_laws.proofs.Lists.{of_each, found_in}
+use Rattle.safety_laws.proofs.Lists.{of_each, found_in, finds}
 use Rattle.safety_laws.proofs.MadeLists.{More, if_any_more}
 use Rattle.safety_laws.proofs.Turns.{all_positive, arises_of, once_same}
 
 -- ---- beginnings
 
-pub begins_itself : (xs : List Kept) → IsBeginning xs xs
+begins_itself : (xs : List Kept) → IsBeginning xs xs
 begins_itself xs = ([], sym (append-nil xs))
-
-pub begins_append : (xs ys : List Kept) → IsBeginning xs (xs ++ ys)
-begins_append xs ys = (ys, refl)
 
 pub nothing_begins : (xs : List Kept) → IsBeginning [] xs
 nothing_begins xs = (xs, refl)
@@ -35,10 +33,6 @@ begins_also xs ys zs a b = (a.0 ++ b.0, b.1 ∙ ap (λ l. l ++ b.0) a.1 ∙ appe
 -- it is no longer,
 pub begins_length : (xs ys : List Kept) → IsBeginning xs ys → length xs ≤ length ys
 begins_length xs ys a = let long = ap length a.1 ∙ length-append xs a.0 in omega arith
-
--- and is the first items;
-pub begins_take : (xs ys : List Kept) → IsBeginning xs ys → take (length xs) ys ≡ xs
-begins_take xs ys a = ap (take (length xs)) a.1 ∙ take-append_seam xs a.0
 
 -- so many of the one are as many of the other.
 pub begins_first : (n : ℕ) (xs ys : List Kept) → IsBeginning xs ys → n ≤ length xs → take n ys ≡ take n xs
@@ -51,32 +45,10 @@ take_begins n xs = (drop n xs, sym (take-append-drop n xs))
 pub take_begins_also : (n : ℕ) (xs ys : List Kept) → IsBeginning xs ys → IsBeginning (take n xs) ys
 take_begins_also n xs ys a = begins_also (take n xs) xs ys (take_begins n xs) a
 
--- Of two beginnings of one list the one that is no longer begins the other.
-pub begins_between : (xs ys zs : List Kept) → IsBeginning xs zs → IsBeginning ys zs → length xs ≤ length ys → IsBeginning xs ys
-begins_between xs ys zs a b low =
-    subst (λ l. IsBeginning l ys) (sym (begins_first (length xs) ys zs b low) ∙ begins_take xs zs a) (take_begins (length xs) ys)
-
--- and so of its first items fewer begin more
-pub fewer_begin : (n m : ℕ) (xs : List Kept) → n ≤ m → m ≤ length xs → IsBeginning (take n xs) (take m xs)
-fewer_begin n m xs low within =
-    let short : length (take n xs) ≡ n = length-take-le n xs (omega arith) in
-    let long : length (take m xs) ≡ m = length-take-le m xs within in
-    begins_between (take n xs) (take m xs) xs (take_begins n xs) (take_begins m xs) (omega arith)
-
 -- ---- the list of a decision
 
--- what passes is found, or one before it
-pub finds : {X : Type 0} (test : X → Bool) (xs : List X) (x : X) → In x xs → test x ≡ true → (y : X) × (find test xs ≡ Some y)
-finds {X = X} test [] x i e = absurd i
-finds {X = X} test (z ∷ xs) x (inl same) e = (z, ap (λ b. cond b (Some z) (find test xs)) (subst (λ w. test w ≡ true) same e))
-finds {X = X} test (z ∷ xs) x (inr i) e = go (test z) (finds test xs x i e)
-  where
-    go : (b : Bool) → (y : X) × (find test xs ≡ Some y) → (y : X) × (cond b (Some z) (find test xs) ≡ Some y)
-    go true k = (z, refl)
-    go false k = k
-
 -- a make of this group and turn
-abbrev pub has_pair : ℕ → ℕ → Make → Bool
+abbrev has_pair : ℕ → ℕ → Make → Bool
 has_pair group turn m = (m.making.decision.group == group) && (m.making.decision.turn == turn)
 
 pair_of : (group turn : ℕ) (m : Make) → has_pair group turn m ≡ true → (m.making.decision.group ≡ group) × (m.making.decision.turn ≡ turn)
@@ -101,8 +73,17 @@ list_is makes once m i = list_at_is makes once m i m.making.decision.group m.mak
 pub list_of_made : (makes : List Make) → AllOnce makes → (d : Decision) → (made : WasMade makes d) → list_of makes (Some d) ≡ made.0.log
 list_of_made makes once d made = list_at_is makes once made.0 made.1 d.group d.turn (ap (λ (x : Decision). x.group) made.2) (ap (λ (x : Decision). x.turn) made.2)
 
+-- What holds of no list, and of the list of each make, holds of that of a decision that may be missing.
+pub list_holds : (P : List Kept → Type 0) → P [] → (makes : List Make) → AllByRecursion (λ (m : Make). P m.log) makes → (o : Option Decision) → P (list_of makes o)
+list_holds P none makes all None = none
+list_holds P none makes all (Some d) = go (find (has_pair d.group d.turn) makes) refl
+  where
+    go : (o : Option Make) → find (has_pair d.group d.turn) makes ≡ o → P (option_map_or (λ (x : Make). x.log) o [])
+    go None e = none
+    go (Some m) e = of_each (λ (x : Make). P x.log) makes m all (found_in (has_pair d.group d.turn) makes m e).0
+
 -- A pair that isn't made has none.
-pub list_at_none : (makes : List Make) (group turn : ℕ) → ((m : Make) → In m makes → m.making.decision.group ≡ group → m.making.decision.turn ≡ turn → ⊥) → list_at makes group turn ≡ []
+list_at_none : (makes : List Make) (group turn : ℕ) → ((m : Make) → In m makes → m.making.decision.group ≡ group → m.making.decision.turn ≡ turn → ⊥) → list_at makes group turn ≡ []
 list_at_none makes group turn none = go (find (has_pair group turn) makes) refl
   where
     go : (o : Option Make) → find (has_pair group turn) makes ≡ o → option_map_or (λ (x : Make). x.log) o [] ≡ []
@@ -111,11 +92,11 @@ list_at_none makes group turn none = go (find (has_pair group turn) makes) refl
 
 -- ---- in a longer list of makes
 
-pub list_at_within : (older makes : List Make) → AllOnce older → AllOnce makes → More older makes → (m : Make) → In m older → (group turn : ℕ) → m.making.decision.group ≡ group → m.making.decision.turn ≡ turn
+list_at_within : (older makes : List Make) → AllOnce older → AllOnce makes → More older makes → (m : Make) → In m older → (group turn : ℕ) → m.making.decision.group ≡ group → m.making.decision.turn ≡ turn
     → list_at makes group turn ≡ list_at older group turn
 list_at_within older makes once_then once more m i group turn g t = list_at_is makes once m (more m i) group turn g t ∙ sym (list_at_is older once_then m i group turn g t)
 
-pub list_within : (older makes : List Make) → AllOnce older → AllOnce makes → More older makes → (o : Option Decision) → WasMadeIfAny older o → list_of makes o ≡ list_of older o
+list_within : (older makes : List Make) → AllOnce older → AllOnce makes → More older makes → (o : Option Decision) → WasMadeIfAny older o → list_of makes o ≡ list_of older o
 list_within older makes once_then once more None made = refl
 list_within older makes once_then once more (Some d) made =
     list_at_within older makes once_then once more made.0 made.1 d.group d.turn (ap (λ (x : Decision). x.group) made.2) (ap (λ (x : Decision). x.turn) made.2)
@@ -131,7 +112,7 @@ list_at_older m older once d i group turn g t = list_at_within older (m ∷ olde
 -- ---- what a make stands on
 
 -- it was made before
-pub stands_on_made : (team : Team) (promises : List Promised) (older : List Make) (m : Make) → Arises team promises older m → WasMadeIfAny older m.making.before
+stands_on_made : (team : Team) (promises : List Promised) (older : List Make) (m : Make) → Arises team promises older m → WasMadeIfAny older m.making.before
 stands_on_made team promises older m (AsFirst turn comes) = comes.before
 stands_on_made team promises older m (AsNext last f) = subst (WasMadeIfAny older) (sym f.before) f.was_made
 
@@ -195,6 +176,14 @@ module _ (team : Team) (promises : List Promised) (makes : List Make) (k : HaveL
   -- Lists of one group extend, from turn to turn.
   pub extend : (a b : Make) → In a makes → In b makes → a.making.decision.group ≡ b.making.decision.group → a.making.decision.turn ≤ b.making.decision.turn → IsBeginning a.log b.log
   extend a b i j group low = extend_by (b.making.decision.turn - a.making.decision.turn) a b i j group (omega (arith, low))
+
+  -- so of two lists of one group one begins the other
+  pub one_begins : (a b : Make) → In a makes → In b makes → a.making.decision.group ≡ b.making.decision.group → IsBeginning a.log b.log ⊎ IsBeginning b.log a.log
+  one_begins a b i j group = by (cases_lt a.making.decision.turn b.making.decision.turn)
+    where
+      by : (a.making.decision.turn < b.making.decision.turn) ⊎ (b.making.decision.turn ≤ a.making.decision.turn) → IsBeginning a.log b.log ⊎ IsBeginning b.log a.log
+      by (inl less) = inl (extend a b i j group (omega (arith, less)))
+      by (inr less) = inr (extend b a j i (sym group) less)
 
   -- A group begins with the list of what it stands on.
   pub group_list : (c : Make) → In c makes → c.making.decision.turn ≡ 0 → c.log ≡ list_of makes c.making.before

@@ -7,7 +7,7 @@ use Rattle.tw_machine.specs.World.{Admissible}
 use Rattle.safety_laws.specs.Ascend.{ascend}
 use Rattle.safety_laws.specs.Held.{held}
 use Rattle.safety_laws.specs.Latest.{latest}
-use Rattle.safety_laws.specs.Laws.{Law, no_law, Both}
+use Rattle.safety_laws.specs.Laws.{Law, Both}
 use Rattle.safety_laws.specs.Mail.{mail}
 use Rattle.safety_laws.specs.Names.{names}
 use Rattle.safety_laws.specs.NotAhead.{not_ahead}
@@ -20,7 +20,7 @@ use Rattle.safety_laws.proofs.Mail.{mail_rules}
 use Rattle.safety_laws.proofs.Names.{names_rules}
 use Rattle.safety_laws.proofs.NotAhead.{not_ahead_rules}
 use Rattle.safety_laws.proofs.Outlived.{outlived_rules}
-use Rattle.safety_laws.proofs.Stack.{LawRules, Kept, stack, law_holds}
+use Rattle.safety_laws.proofs.Stack.{LawRules, Kept, stack, law_holds, over_any}
 use Rattle.safety_laws.proofs.Windows.{windows_rules}
 use Rattle.safety_laws.specs.Promises.{of_promises}
 use Rattle.safety_laws.proofs.Stack.{IsSameLaw, rests_on, renamed}
@@ -63,7 +63,7 @@ outlived_too team = stack team (with_mail team) (outlived team) (mail_too team)
 
 all_too : (team : Team) → LawRules team (with_all team)
 all_too team = stack team (with_outlived team) held (outlived_too team)
-    (rests_on team no_law (with_outlived team) held (record { history = λ steps w k. tt; running = λ steps w who p k. tt }) (held_rules team))
+    (over_any team (with_outlived team) held (held_rules team))
 
 same_law : (team : Team) → IsSameLaw (with_all team) (of_promises team)
 same_law team = record {

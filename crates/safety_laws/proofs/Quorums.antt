@@ -15,10 +15,10 @@ use Rattle.tw_machine.specs.History.{Promised, Make}
 use Rattle.tw_machine.proofs.Tables.{all_mapped}
 use Rattle.safety_laws.specs.Effects.{Written}
 use Rattle.tw_types.specs.Items.{In}
-use Rattle.safety_laws.specs.Made.{made, IsNotOlder, WasReported, AllArise}
-use Rattle.safety_laws.specs.Names.{make_name, IsNamed, AreNamed, names}
-use Rattle.safety_laws.specs.Precede.{Precedes, PrecedeIt, precede}
-use Rattle.safety_laws.specs.Supports.{IsMakeOf, IsSupported, AllSupported, supports}
+use Rattle.safety_laws.specs.Made.{IsNotOlder, WasReported, AllArise}
+use Rattle.safety_laws.specs.Names.{make_name, IsNamed, AreNamed}
+use Rattle.safety_laws.specs.Precede.{Precedes, PrecedeIt}
+use Rattle.safety_laws.specs.Supports.{IsMakeOf, IsSupported, AllSupported}
 use Rattle.safety_laws.proofs.Counting.{IsMajority, processes_by, majority_by, shared_by}
 use Rattle.safety_laws.proofs.Groups.{ComesAt, comes_at, has_first, are_majority}
 use Rattle.safety_laws.proofs.Lists.{of_each, each_weaker}
@@ -38,10 +38,6 @@ pub record Agree (team : Team) (promises : List Promised) (makes : List Make) : 
   pub supported : AllSupported makes
   pub precede : AllByRecursion (PrecedeIt team makes) promises
   pub named : AllByRecursion HasOwnName makes
-
--- as the laws give it
-pub agree : (team : Team) (steps : List Step) (w : Written) → (made team).History steps w → supports.History steps w → (precede team).History steps w → names.History steps w → Agree team w.promises w.makes
-agree team steps w of_makes of_supports of_precede of_names = record { arise = of_makes.arise; supported = of_supports; precede = of_precede; named = own_names steps w of_names }
 
 -- a support is a make of its member
 pub supported_at : (makes : List Make) (m : Make) → AllSupported makes → In m makes → (seat : Seat) → In seat m.making.decision.seats.items → (support : Support) → seat.support ≡ Some support → (made : Make) × In made makes × IsMakeOf m seat support made
@@ -85,14 +81,14 @@ supporters team promises makes arise test m i enough =
     majority_by team.n (λ (s : Seat). s.member.who) test m.making.decision.seats.items all.distinct all.below enough
 
 -- the informed ones that a group was made of
-pub informed_ones : (team : Team) (promises : List Promised) (makes : List Make) (m : Make) → ComesAt team promises makes m → IsMajority team.n (processes_by (λ (r : Report). r.member.who) is_by_informed m.making.reports)
+informed_ones : (team : Team) (promises : List Promised) (makes : List Make) (m : Make) → ComesAt team promises makes m → IsMajority team.n (processes_by (λ (r : Report). r.member.who) is_by_informed m.making.reports)
 informed_ones team promises makes m at =
     majority_by team.n (λ (r : Report). r.member.who) is_by_informed m.making.reports at.comes.distinct
     (all_mapped (λ q. q < team.n) (λ (r : Report). r.member.who) m.making.reports at.comes.below) at.comes.majority
 
 module _ (team : Team) (promises : List Promised) (makes : List Make) (k : Agree team promises makes) (test : Seat → Bool) (lower higher : Make) where
   -- a seat that passes, and the report of its process in the ballot of the higher group
-  pub shared_at : ((s : Seat) → test s ≡ true → is_some s.support ≡ true) → In lower makes → In higher makes → higher.making.decision.turn ≡ 0 → lower.making.decision.group < higher.making.decision.group
+  shared_at : ((s : Seat) → test s ≡ true → is_some s.support ≡ true) → In lower makes → In higher makes → higher.making.decision.turn ≡ 0 → lower.making.decision.group < higher.making.decision.group
       → (s : Seat) (r : Report) → In s lower.making.decision.seats.items → In r higher.making.reports → test s ≡ true → is_by_informed r ≡ true → s.member.who ≡ r.member.who → Shared team promises makes test lower higher
   shared_at there i j turn later s r si ri passes informed same =
       let at = comes_at team promises makes higher k.arise j turn in

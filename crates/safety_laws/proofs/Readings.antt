@@ -1,8 +1,9 @@
 -- What the processes of a schedule read, and what one may read next.
-use Rattle.std.proofs.Common.{◌≡◌, refl, ℕ, ◌-◌, ◌≤◌, Bool, true, false, not, ◌&&◌, ◌||◌, nat_eq, List, [], ◌∷◌, inl, inr, arith}
+use Rattle.std.proofs.Common.{◌≡◌, refl, ℕ, ◌-◌, ◌≤◌, Bool, true, not, ◌&&◌, ◌||◌, nat_eq, List, [], ◌∷◌, inl, inr, arith}
 use Rattle.std.specs.Prelude.{nat_le}
 use Rattle.std.specs.List.{list_all}
 use Rattle.std.proofs.lemmas.Bool.Decides.{nat_tests}
+use Rattle.std.proofs.lemmas.Bool.{and_parts}
 use Rattle.tw_types.specs.declared.step.Step.{Step}
 use Rattle.tw_num.specs.Elapsed.{MayElapse}
 use Rattle.tw_machine.specs.Admissible.{keeps_drift}
@@ -17,10 +18,6 @@ has_just_read past s = inl (record { by = refl; time = refl; reading = refl })
 pub record IsSince (ppm t0 h0 t h : ℕ) : Type 0 where
   pub not_before : t0 ≤ t
   pub ticks : MayElapse ppm (h - h0) (t - t0)
-
-and_parts : (a b : Bool) → (a && b) ≡ true → (a ≡ true) × (b ≡ true)
-and_parts true b e = (refl, e)
-and_parts false b e = absurd (cc)
 
 -- no step is later
 pub not_later : (past : List Step) (who t t0 h0 : ℕ) → list_all (λ (e : Step). nat_le e.t t) past ≡ true → HasRead past who t0 h0 → t0 ≤ t

@@ -36,7 +36,7 @@ begins who h modes.Again lost = (refl, refl)
 
 module _ (team : Team) (steps : List Step) (here : Here) (x y : State) (who : _) (known : OfMember team steps x.written who x.process) (c : Promises here x y) where
   -- the new promise
-  abbrev pub new : Promised
+  abbrev new : Promised
   new = promise_item here.life here.step c.given
 
   -- nothing is given to a blank process yet, so it isn't able to promise
@@ -70,7 +70,7 @@ module _ (team : Team) (steps : List Step) (here : Here) (x y : State) (who : _)
   is_informed_promise = by_informed x.process.belief c.given.report (ap (λ (r : Report). r.kind) c.report) informed
 
   -- so all stays as it was said of promises
-  pub given_well : AreReports x.written → AreReports (record (x.written) { promises = new ∷ x.written.promises })
+  given_well : AreReports x.written → AreReports (record (x.written) { promises = new ∷ x.written.promises })
   given_well k = record { still = (again, k.still); seated = (seated, k.seated); informed = (is_informed_promise, k.informed) }
 
 -- of the same promises the same holds

@@ -1,9 +1,9 @@
 -- Deliveries are backed: what is passed as strong stands in the lists of a majority, and what is passed as strict in that of each member.
-use Rattle.std.proofs.Common.{◌≡◌, ◌≢◌, refl, sym, ap, subst, ◌∙◌, inl, inr, ℕ, suc, ◌+◌, ◌/◌, ◌≤◌, ◌<◌, Bool, true, List, [], ◌∷◌, ◌++◌, length, Option, Some, None, slice_get, count_by, arith}
-use Rattle.std.specs.List.{AllByRecursion, list_all}
-use Rattle.std.proofs.lemmas.Bool.{and_parts}
+use Rattle.std.proofs.Common.{◌≡◌, ◌≢◌, refl, sym, ap, subst, ◌∙◌, ℕ, suc, ◌+◌, ◌/◌, ◌≤◌, ◌<◌, true, List, [], ◌∷◌, ◌++◌, length, Option, Some, None, slice_get, count_by, arith}
+use Rattle.std.specs.List.{AllByRecursion}
 use Rattle.std.proofs.lemmas.Bool.Decides.{nat_tests}
 use Rattle.std.proofs.lemmas.List.{length-append}
+use Rattle.std.proofs.lemmas.Option.{slice_get_within}
 use Rattle.tw_types.specs.declared.message.Atom.{Atom}
 use Rattle.tw_types.specs.declared.message.Atom.TheVariants.{Strong, Strict}
 use Rattle.tw_types.specs.declared.message.Member.{Member}
@@ -33,13 +33,13 @@ use Rattle.safety_laws.proofs.Counting.{IsMajority, processes_by, passes}
 use Rattle.safety_laws.proofs.DeliveryLaws.{with_delivered, delivered_well}
 use Rattle.safety_laws.proofs.GroupLaws.{grouped_well}
 use Rattle.safety_laws.proofs.Induction.{earlier}
-use Rattle.safety_laws.proofs.Lists.{of_each}
+use Rattle.safety_laws.proofs.Lists.{of_each, each_passes}
 use Rattle.safety_laws.proofs.ListsAt.{supports_at}
 use Rattle.safety_laws.proofs.MadeLines.{are_printed, members_of_made}
 use Rattle.safety_laws.proofs.MadeLists.{More}
 use Rattle.safety_laws.proofs.MadeRows.{makes_shown}
 use Rattle.safety_laws.proofs.LinesOfRows.{IsPassOf, pass_told}
-use Rattle.safety_laws.proofs.Places.{at_in, at_below, at_last, each_pushed, exists_pushed}
+use Rattle.safety_laws.proofs.Places.{at_in, at_last, each_pushed, exists_pushed}
 use Rattle.safety_laws.proofs.Quorums.{supporters}
 use Rattle.safety_laws.proofs.Stack.{Kept as Holding}
 use Rattle.safety_laws.proofs.TablesOf.{makes_more}
@@ -69,12 +69,6 @@ far_support : (position : ℕ) (o : Option Support) → reaches position o ≡ t
 far_support position None e = absurd (cc)
 far_support position (Some support) e = (support, refl, grind (arith, nat_tests))
 
--- each item passes a test that all pass
-one_of_all : {X : Type 0} (test : X → Bool) (xs : List X) (x : X) → list_all test xs ≡ true → In x xs → test x ≡ true
-one_of_all test [] x all i = absurd i
-one_of_all test (y ∷ xs) x all (inl e) = subst (λ z. test z ≡ true) (sym e) (and_parts (test y) (list_all test xs) all).0
-one_of_all test (y ∷ xs) x all (inr i) = one_of_all test xs x (and_parts (test y) (list_all test xs) all).1 i
-
 -- ---- each pass that isn't late
 
 -- in a row that is the last one so far
@@ -85,7 +79,7 @@ last_backed meaning team past i r k p sound ok at last there not_late = record {
   make = by.make;
   made = by.made;
   group_is = by.group ∙ x.2.group;
-  fulfilled = subst (λ (u : Update). fulfils team by.make.making.decision p.position u.atom ≡ true) (sym x.2.update) ((by.passed p.position p.how x.2.place).2 not_late);
+  fulfilled = subst (λ (u : Update). fulfils team by.make.making.decision p.position u.atom ≡ true) x.2.update ((by.passed p.position p.how x.2.place).2 not_late);
   shown = λ s j far. shown s j (far_support p.position s.support far);
 }
   where
@@ -116,7 +110,7 @@ last_backed meaning team past i r k p sound ok at last there not_late = record {
           (
             row.3.member ∙ m.2.member,
             record {
-              not_after = let low = at_below (rows_of meaning team past) row.0 row.1 row.2 in omega arith;
+              not_after = let low = slice_get_within (rows_of meaning team past) row.0 row.1 row.2 in omega arith;
               same_group = row.3.group ∙ m.2.group ∙ by.group ∙ x.2.group;
               longer = let long = far.2 in let length_is = row.3.length_is in let ack = m.2.length_is in omega (arith, long, length_is, ack);
             },
@@ -170,7 +164,7 @@ module _ {Content : Type 0} (meaning : Meaning Content) (team : Team) (past : Li
       → Each (members_of (rows_of meaning team past) group) (λ l m. Exists (rows_of meaning team past) (λ j q. (life_of q ≡ m) × HasPosition i group position j q))
   strict_backed i group position k l m e =
       let s = of_map (λ (s : Seat). s.member) k.make.making.decision.seats.items m (subst (In m) (list k.make k.made k.group_is) (at_in _ l m e)) in
-      let row = k.shown s.0 s.1 (one_of_all (λ (s : Seat). reaches position s.support) k.make.making.decision.seats.items s.0 k.fulfilled s.1) in
+      let row = k.shown s.0 s.1 (of_each (λ (s : Seat). reaches position s.support ≡ true) k.make.making.decision.seats.items s.0 (each_passes (λ (s : Seat). reaches position s.support) k.make.making.decision.seats.items k.fulfilled) s.1) in
       (row.0, row.1, row.2, (row.3.0 ∙ sym s.2, row.3.1))
     where
       list : (make : Make) → In make (history team past).makes → make.making.decision.group ≡ group → members_of (rows_of meaning team past) group ≡ members make.making.decision

@@ -9,6 +9,7 @@ use Rattle.tw_types.specs.declared.team.Team.{Team}
 use Rattle.tw_types.specs.Items.{In}
 use Rattle.tw_types.specs.Row.{Row}
 use Rattle.tw_types.specs.Team.{IsSound}
+use Rattle.tw_types.proofs.Lists.{all_parted}
 use Rattle.tw_machine.specs.Applied.{Meaning}
 use Rattle.tw_machine.specs.History.{Line, history}
 use Rattle.tw_machine.specs.Rows.{rows_of}
@@ -45,11 +46,7 @@ turn_mapped R f (x ∷ xs) turn = (all_mapped (R (f x)) f xs turn.0, turn_mapped
 
 pub turn_first : {X : Type 0} (R : X → X → Type 0) (xs ys : List X) → InTurn R (xs ++ ys) → InTurn R xs
 turn_first R [] ys turn = tt
-turn_first R (x ∷ xs) ys turn = (all_first (R x) xs ys turn.0, turn_first R xs ys turn.1)
-  where
-    all_first : {Z : Type 0} (P : Z → Type 0) (cs bs : List Z) → AllByRecursion P (cs ++ bs) → AllByRecursion P cs
-    all_first P [] bs all = tt
-    all_first P (c ∷ cs) bs all = (all.0, all_first P cs bs all.1)
+turn_first R (x ∷ xs) ys turn = ((all_parted (R x) xs ys turn.0).0, turn_first R xs ys turn.1)
 
 turn_rest : {X : Type 0} (R : X → X → Type 0) (xs ys : List X) → InTurn R (xs ++ ys) → InTurn R ys
 turn_rest R [] ys turn = turn

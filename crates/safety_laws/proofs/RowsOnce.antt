@@ -1,7 +1,6 @@
 -- Where the lines of a history are delivered once, so are the updates that rows show; and what a row passes as delivered earlier went
 -- early in an earlier row.
 use Rattle.std.proofs.Common.{◌≡◌, refl, sym, ap, subst, ◌∙◌, inl, inr, ◌⊎◌, ℕ, ◌≤◌, ◌<◌, Bool, true, false, cond, List, [], ◌∷◌, ◌++◌, map, filter, Some, slice_get, arith}
-use Rattle.std.specs.Prelude.{◌==◌}
 use Rattle.std.specs.List.{AllByRecursion}
 use Rattle.std.proofs.lemmas.Bool.{cases_lt}
 use Rattle.std.proofs.lemmas.Option.{same_Some}
@@ -23,37 +22,40 @@ use Rattle.tw_machine.specs.Run.{Place, AtPass, AtEarly, AtWait}
 use Rattle.tw_machine.specs.SafeRows.{life_of, is_now, delivered}
 use Rattle.tw_machine.specs.World.{Admissible}
 use Rattle.safety_laws.specs.Early.{is_early, delivers, WentEarly, NotBoth, WentBefore, DeliveredOnce}
-use Rattle.safety_laws.specs.Seen.{Delivery, Passed, Early, delivery_at, delivery_of, deliveries_in, IsLineOf, lines_of, Shown, shown_by, shown_in, shown_of}
-use Rattle.safety_laws.proofs.LinesSeen.{row_lines_seen, lines_printed}
-use Rattle.safety_laws.proofs.Lists.{of_each, each_from, each_both, in_first, of_append}
-use Rattle.safety_laws.proofs.RowsAscend.{IsNamed, place_passed, same_member, lines_named}
+use Rattle.safety_laws.specs.Seen.{Delivery, Passed, Early, delivery_at, delivery_of, deliveries_in, IsLineOf, Shown, shown_by, shown_in, shown_of}
+use Rattle.safety_laws.proofs.FirstDecisions.{one_member}
+use Rattle.safety_laws.proofs.LinesOfRows.{passed_parts, early_parts, told_by, pass_there, IsNamed, lines_named}
+use Rattle.safety_laws.proofs.LinesSeen.{lines_printed}
+use Rattle.safety_laws.proofs.Lists.{of_each, each_from, each_both, of_append}
+use Rattle.safety_laws.proofs.Marks.{went_more}
+use Rattle.safety_laws.proofs.Places.{at_in, place_of}
 use Rattle.safety_laws.proofs.RowsInTurn.{InTurn, turn_across, RowsInTurn, rows_in_turn}
-use Rattle.safety_laws.proofs.TurnPlaces.{place_in, place_of, turn_unmapped, picked_at, turn_picked}
+use Rattle.safety_laws.proofs.TurnPlaces.{turn_unmapped, picked_at, turn_picked}
 
 -- ---- what a row delivers
 
 -- the update that is passed or goes early
-abbrev pub update_of : Delivery → Update
+abbrev update_of : Delivery → Update
 update_of (Passed p) = p.update
 update_of (Early u) = u
 
 -- a delivery: an update that goes early, or is passed with now
-abbrev pub is_delivery : Delivery → Bool
+abbrev is_delivery : Delivery → Bool
 is_delivery (Passed p) = is_now p.how
 is_delivery (Early u) = true
 
 -- two of one member and one update aren't both deliveries
-abbrev pub NotTwice : Shown → Shown → Type 0
+abbrev NotTwice : Shown → Shown → Type 0
 NotTwice earlier later = earlier.who ≡ later.who → earlier.incarnation ≡ later.incarnation → (update_of earlier.delivery).id ≡ (update_of later.delivery).id
     → is_delivery earlier.delivery ≡ true → is_delivery later.delivery ≡ true → ⊥
 
 -- Within an incarnation an update is delivered at one place of one row at most.
-abbrev pub EachOnce : List Row → Type 0
+abbrev EachOnce : List Row → Type 0
 EachOnce rows = Each rows (λ i r. Each rows (λ j s. life_of r ≡ life_of s →
     Each (delivered r) (λ k u. Each (delivered s) (λ l v. u.id ≡ v.id → (i ≡ j) × (k ≡ l)))))
 
 -- What is passed as delivered earlier went early in an earlier row of its incarnation.
-abbrev pub EachEarlyBefore : List Row → Type 0
+abbrev EachEarlyBefore : List Row → Type 0
 EachEarlyBefore rows = Each rows (λ i r. Each r.passes (λ k p. p.how ≡ Earlier →
     Exists rows (λ j s. (j < i) × (life_of s ≡ life_of r) × Exists s.earlies (λ l u. u.id ≡ p.update.id))))
 
@@ -101,7 +103,7 @@ not_between rows i j r s k l u v turn less at at' life is is' same =
     (ap (λ (m : Member). m.who) life) (ap (λ (m : Member). m.incarnation) life) (ap (λ (z : Update). z.id) a.is ∙ same ∙ ap (λ (z : Update). z.id) (sym b.is)) a.passes b.passes
 
 -- Rows of which no two show a delivery of one member and one update deliver each update once.
-pub once_of_turn : (rows : List Row) → RowsInTurn NotTwice rows → EachOnce rows
+once_of_turn : (rows : List Row) → RowsInTurn NotTwice rows → EachOnce rows
 once_of_turn rows turn i r at j s at' life k u is l v is' same = by (cases_lt i j) (cases_lt j i) (cases_lt k l) (cases_lt l k)
   where
     by : (i < j) ⊎ (j ≤ i) → (j < i) ⊎ (i ≤ j) → (k < l) ⊎ (l ≤ k) → (l < k) ⊎ (k ≤ l) → (i ≡ j) × (k ≡ l)
@@ -131,7 +133,7 @@ delivers_at AtWait k = refl
 
 not_twice : (x y : Line) → IsNamed x → IsNamed y → NotBoth x y → NotTwice (shown_of y) (shown_of x)
 not_twice x y named named' not_both who incarnation same is is' =
-    not_both (sym (same_member y.member x.member (named' ∙ who ∙ sym named) incarnation))
+    not_both (sym (one_member y.member x.member (named' ∙ who ∙ sym named) incarnation))
     (sym (ap (λ (u : Update). u.id) (sym (update_at y.delivered.place y.delivered.update)) ∙ same ∙ ap (λ (u : Update). u.id) (update_at x.delivered.place x.delivered.update)))
     (sym (delivers_at x.delivered.place x.delivered.update) ∙ is') (sym (delivers_at y.delivered.place y.delivered.update) ∙ is)
 
@@ -151,12 +153,8 @@ rows_once meaning team past sound ok once =
 -- it went early among the lines
 went_early : (lines : List Line) (x : Line) (position : ℕ) → DeliveredOnce lines → In x lines → x.delivered.place ≡ AtPass position Earlier → WentEarly lines x.member x.delivered.update.entry.id
 went_early [] x position once i at = absurd i
-went_early (y ∷ older) x position once (inl same) at =
-    let k = subst (WentBefore older) (sym same) once.1 position at in
-    record { line = k.line; there = inr k.there; member_is = k.member_is; early = k.early; id_is = k.id_is }
-went_early (y ∷ older) x position once (inr i) at =
-    let k = went_early older x position once.2 i at in
-    record { line = k.line; there = inr k.there; member_is = k.member_is; early = k.early; id_is = k.id_is }
+went_early (y ∷ older) x position once (inl same) at = went_more older (y ∷ older) x.member x.delivered.update.entry.id (λ z i. inr i) (subst (WentBefore older) (sym same) once.1 position at)
+went_early (y ∷ older) x position once (inr i) at = went_more older (y ∷ older) x.member x.delivered.update.entry.id (λ z i. inr i) (went_early older x position once.2 i at)
 
 -- what is passed as delivered earlier doesn't go early after that
 abbrev NotEarlyAfter : Shown → Shown → Type 0
@@ -175,21 +173,16 @@ early_printed (AtPass position how) k e = absurd (cc)
 early_printed (AtEarly position) k e = refl
 early_printed AtWait k e = refl
 
-shown_early : (place : Place) (k : Kept) (u : Update) → delivery_at place k ≡ Early u → (delivers place ≡ true) × (update_printed k ≡ u)
-shown_early (AtPass position how) k u e = absurd (cc)
-shown_early (AtEarly position) k u e = (refl, cc)
-shown_early AtWait k u e = (refl, cc)
-
 not_early_after : (x : Line) (older : List Line) (y : Line) → IsNamed x → IsNamed y → AllByRecursion (NotBoth x) older → DeliveredOnce older → In y older → NotEarlyAfter (shown_of y) (shown_of x)
 not_early_after x older y named named' not_both once i who incarnation p u is is' how same =
-    let place = place_passed y.delivered.place y.delivered.update p is ∙ ap (λ h. AtPass p.position h) how in
+    let place = (passed_parts y.delivered.place y.delivered.update p is).0 ∙ ap (λ h. AtPass p.position h) how in
     let k = went_early older y p.position once i place in
-    let early = shown_early x.delivered.place x.delivered.update u is' in
+    let early = early_parts x.delivered.place x.delivered.update u is' in
     let printed : update_printed y.delivered.update ≡ p.update = sym (update_at y.delivered.place y.delivered.update) ∙ ap update_of is in
     of_each (NotBoth x) older k.line not_both k.there
-    (sym (k.member_is ∙ same_member y.member x.member (named' ∙ who ∙ sym named) incarnation))
+    (sym (k.member_is ∙ one_member y.member x.member (named' ∙ who ∙ sym named) incarnation))
     (sym (k.id_is ∙ ap (λ (z : Update). z.id) printed ∙ same ∙ ap (λ (z : Update). z.id) (sym early.1)))
-    early.0 (early_delivers k.line.delivered.place k.early)
+    (early_delivers x.delivered.place early.0) (early_delivers k.line.delivered.place k.early)
 
 lines_not_early : (lines : List Line) → AllByRecursion IsNamed lines → DeliveredOnce lines → InTurn (λ (later earlier : Line). NotEarlyAfter (shown_of earlier) (shown_of later)) lines
 lines_not_early [] named once = tt
@@ -197,24 +190,6 @@ lines_not_early (x ∷ older) named once = (
   each_from (λ (y : Line). NotEarlyAfter (shown_of y) (shown_of x)) older (λ y i. not_early_after x older y named.0 (of_each IsNamed older y named.1 i) once.0 once.2 i),
   lines_not_early older named.1 once.2,
 )
-
--- a line that bears a number is one of all
-of_number : (number : ℕ) (lines : List Line) (x : Line) → In x (lines_of number lines) → In x lines
-of_number number [] x i = i
-of_number number (y ∷ older) x i = go (y.row == number) (of_number number older x) i
-  where
-    by : In x older ⊎ In x (y ∷ []) → In x (y ∷ older)
-    by (inl j) = inr j
-    by (inr (inl same)) = inl same
-    by (inr (inr none)) = absurd none
-
-    with_last : (In x (lines_of number older) → In x older) → In x (lines_of number older) ⊎ In x (y ∷ []) → In x (y ∷ older)
-    with_last within (inl j) = inr (within j)
-    with_last within (inr j) = by (inr j)
-
-    go : (b : Bool) → (In x (lines_of number older) → In x older) → In x (cond b (lines_of number older ++ y ∷ []) (lines_of number older)) → In x (y ∷ older)
-    go true within j = with_last within (of_append x (lines_of number older) (y ∷ []) j)
-    go false within j = inr (within j)
 
 -- what a row shows as early is one of its early ones
 of_early : (r : Row) (u : Update) → In (Early u) (deliveries_in r) → In u r.earlies
@@ -233,20 +208,17 @@ early_before meaning team past sound ok once i r at k p is how = (j, s, at', (ea
 
     -- the pass has a line,
     passed : In (Passed p) (deliveries_in r)
-    passed = in_first (Passed p) (map Passed r.passes) (map Early r.earlies) (in_map Passed r.passes p (place_in r.passes k p is))
+    passed = pass_there r p (at_in r.passes k p is)
 
     found : (x : Line) × In x lines × IsLineOf r x × (delivery_of x ≡ Passed p)
-    found =
-        let own = row_lines_seen meaning team past sound ok i r at in
-        let z = of_map delivery_of (lines_of r.step lines) (Passed p) (subst (In (Passed p)) (sym own.whole) passed) in
-        (z.0, of_number r.step lines z.0 z.1, of_each (IsLineOf r) (lines_of r.step lines) z.0 own.each z.1, sym z.2)
+    found = told_by meaning team past sound ok i r at (Passed p) passed
 
     x : Line
     x = found.0
 
     -- before which its update went early,
     went : WentEarly lines x.member x.delivered.update.entry.id
-    went = went_early lines x p.position once found.1 (place_passed x.delivered.place x.delivered.update p found.3 ∙ ap (λ h. AtPass p.position h) how)
+    went = went_early lines x p.position once found.1 ((passed_parts x.delivered.place x.delivered.update p found.3).0 ∙ ap (λ h. AtPass p.position h) how)
 
     y : Line
     y = went.line
@@ -290,7 +262,7 @@ early_before meaning team past sound ok once i r at k p is how = (j, s, at', (ea
     not_here place =
         let row : s ≡ r = same_Some s r (sym at' ∙ ap (λ n. slice_get (rows_of meaning team past) n) (sym place) ∙ at) in
         turn_across (λ a b. NotEarlyAfter (shown_by r a) (shown_by r b)) (map Passed r.passes) (map Early r.earlies) (Passed p) (Early u) (turn_unmapped NotEarlyAfter (shown_by r) (deliveries_in r) (turn.within i r at))
-        (in_map Passed r.passes p (place_in r.passes k p is)) (in_map Early r.earlies u (subst (λ (z : Row). In u z.earlies) row early_here)) refl refl p u refl refl how (sym same)
+        (in_map Passed r.passes p (at_in r.passes k p is)) (in_map Early r.earlies u (subst (λ (z : Row). In u z.earlies) row early_here)) refl refl p u refl refl how (sym same)
 
     -- and not in a later one
     not_later : i < j → ⊥

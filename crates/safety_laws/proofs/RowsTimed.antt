@@ -1,9 +1,8 @@
 -- Timed updates that a member passes with now come in the ascending order of their marks, as its rows show them.
-use Rattle.std.proofs.Common.{◌≡◌, refl, sym, ap, subst, ◌∙◌, inl, inr, ℕ, zero, suc, ◌+◌, ◌<◌, Bool, true, false, cond, List, [], ◌∷◌, map, filter, find, Option, Some, None, slice_get, length, arith}
-use Rattle.std.specs.Prelude.{◌==◌, ◌&&◌}
+use Rattle.std.proofs.Common.{◌≡◌, refl, sym, ap, subst, ◌∙◌, inl, inr, ℕ, zero, suc, ◌+◌, ◌<◌, Bool, true, false, cond, List, [], ◌∷◌, map, filter, Option, Some, None, slice_get, length, arith}
+use Rattle.std.specs.Prelude.{◌&&◌}
 use Rattle.std.specs.List.{AllByRecursion}
-use Rattle.std.specs.Option.{option_map_or}
-use Rattle.std.proofs.lemmas.Bool.{and_parts}
+use Rattle.std.proofs.lemmas.Bool.{and_parts, false_from_ne_true}
 use Rattle.std.proofs.lemmas.Bool.Decides.{nat_tests}
 use Rattle.std.proofs.lemmas.Option.{same_Some}
 use Rattle.tw_types.specs.declared.message.Decision.{Decision}
@@ -32,7 +31,7 @@ use Rattle.tw_machine.specs.Applied.{Meaning}
 use Rattle.tw_machine.specs.History.{Line, Make, life, line_item, lines_on, lines_by, list_of, history}
 use Rattle.tw_machine.specs.Places.{Below}
 use Rattle.tw_machine.specs.Rows.{rows_of}
-use Rattle.tw_machine.specs.Run.{Place, AtPass, AtEarly, AtWait, Delivered}
+use Rattle.tw_machine.specs.Run.{AtPass, Delivered}
 use Rattle.tw_machine.specs.SafeRows.{is_now, is_timed, timed, mark_of, TimedOrder}
 use Rattle.tw_machine.specs.Standing.{member_of}
 use Rattle.tw_machine.specs.World.{deed_in, world, Admissible}
@@ -42,11 +41,13 @@ use Rattle.safety_laws.specs.Lists.{entries_of, marks_of, MarksAscend, IsListOf}
 use Rattle.safety_laws.specs.Seen.{Passed, Early, delivery_at, deliveries_in, Shown, shown_by, shown_in, shown_of}
 use Rattle.safety_laws.proofs.ClockLaw.{own_after}
 use Rattle.safety_laws.proofs.DeliveryLaws.{with_delivered, delivered_well}
+use Rattle.safety_laws.proofs.FirstDecisions.{one_member}
 use Rattle.safety_laws.proofs.Induction.{earlier}
-use Rattle.safety_laws.proofs.Lists.{of_each, each_weaker, each_both, found_in, in_first}
-use Rattle.safety_laws.proofs.Passed.{whole_list}
-use Rattle.safety_laws.proofs.PassedLists.{at_base, without_mark}
-use Rattle.safety_laws.proofs.RowsAscend.{IsNamed, place_passed, same_member, lines_named}
+use Rattle.safety_laws.proofs.LinesOfRows.{passed_parts, pass_there, IsNamed, lines_named}
+use Rattle.safety_laws.proofs.Lists.{each_weaker, each_both}
+use Rattle.safety_laws.proofs.Passed.{whole_list, passed_in}
+use Rattle.safety_laws.proofs.PassedLists.{late_told}
+use Rattle.safety_laws.proofs.Prefixes.{list_holds}
 use Rattle.safety_laws.proofs.RowsInTurn.{InTurn, turn_first, RowsInTurn, rows_in_turn}
 use Rattle.safety_laws.proofs.Stack.{Kept as Holding}
 use Rattle.safety_laws.proofs.TurnPlaces.{turn_unmapped, picked_at, turn_picked}
@@ -86,15 +87,7 @@ marks_at (k ∷ list) j i a b ascend less at then moves moves' = go (moves_mark 
 
 -- the list of a made decision ascends, and where there is no decision there is nothing
 list_ascends : (makes : List Make) (o : Option Decision) → AllByRecursion IsListOf makes → MarksAscend (marks_of (list_of makes o))
-list_ascends makes None whole = tt
-list_ascends makes (Some d) whole = go (find has makes) refl
-  where
-    has : Make → Bool
-    has m = (m.making.decision.group == d.group) && (m.making.decision.turn == d.turn)
-
-    go : (o : Option Make) → find has makes ≡ o → MarksAscend (marks_of (option_map_or (λ (m : Make). m.log) o []))
-    go None e = tt
-    go (Some m) e = (of_each IsListOf makes m whole (found_in has makes m e).0).ascend
+list_ascends makes o whole = list_holds (λ list. MarksAscend (marks_of list)) tt makes (each_weaker IsListOf (λ (m : Make). MarksAscend (marks_of m.log)) makes (λ m is. is.ascend) whole) o
 
 -- ---- lines
 
@@ -106,11 +99,9 @@ TimedAbove later earlier = earlier.member ≡ later.member → (i j : ℕ) → l
 
 -- what is passed with now isn't late
 now_moves : (k : Kept) → Now ≡ how_passed k → updates.is_timed k.entry.order ≡ true → moves_mark k.entry ≡ true
-now_moves k now is = go k.entry.late refl
-  where
-    go : (late : Bool) → k.entry.late ≡ late → moves_mark k.entry ≡ true
-    go true e = let f : Now ≡ Late = now ∙ ap (λ b. cond b Late (cond (is_unordered k.entry.order && k.early) Earlier Now)) e in absurd (cc)
-    go false e = search arith
+now_moves k now is =
+    let early : k.entry.late ≡ false = false_from_ne_true k.entry.late (λ e. let f : Now ≡ Late = now ∙ (late_told k).1 e in cc) in
+    search arith
 
 -- what is known of a line at a process: it stands passed there, and is backed
 abbrev IsKnown : Team → List Make → Process → Line → Type 0
@@ -119,7 +110,7 @@ IsKnown team makes p x = IsPassedOf p x × IsBacked team makes x
 -- of two passes of one process, whose list ascends
 module _ (team : Team) (makes : List Make) (p : Process) (base : p.log.base ≡ 0) (ascend : is_informed p.belief ≡ true → MarksAscend (marks_of (map unmarked p.log.entries))) where
   there : (position : ℕ) (update : Kept) → StandsPassed p position update → slice_get (map unmarked p.log.entries) position ≡ Some (unmarked update)
-  there position update k = without_mark p.log.entries position k.there (sym (at_base p.log base position) ∙ k.at) ∙ ap Some k.same
+  there = passed_in p (map unmarked p.log.entries) base refl
 
   timed_above : (x y : Line) → IsKnown team makes p x → IsKnown team makes p y → PassedAbove x y → x.member ≡ member_of p.identity → TimedAbove x y
   timed_above x y known known' above mine same i j at at' is is' =
@@ -215,19 +206,14 @@ record IsTimedNow (x : Line) (p : Pass) : Type 0 where
   timed : updates.is_timed x.delivered.update.entry.order ≡ true
   update : update_printed x.delivered.update ≡ p.update
 
-update_passed : (place : Place) (k : Kept) (p : Pass) → delivery_at place k ≡ Passed p → update_printed k ≡ p.update
-update_passed (AtPass position how) k p e = cc
-update_passed (AtEarly position) k p e = absurd (cc)
-update_passed AtWait k p e = absurd (cc)
-
 timed_now : (x : Line) (p : Pass) → delivery_at x.delivered.place x.delivered.update ≡ Passed p → is_timed_now p ≡ true → IsTimedNow x p
 timed_now x p is passes =
     let two = and_parts (is_now p.how) (is_timed p.update.order) passes in
-    let update = update_passed x.delivered.place x.delivered.update p is in
+    let parts = passed_parts x.delivered.place x.delivered.update p is in
     record {
-      place = place_passed x.delivered.place x.delivered.update p is ∙ ap (λ how. AtPass p.position how) (now_is p.how two.0);
-      timed = sym (timed_is x.delivered.update.entry.order) ∙ ap (λ (u : Update). is_timed u.order) update ∙ two.1;
-      update = update;
+      place = parts.0 ∙ ap (λ how. AtPass p.position how) (now_is p.how two.0);
+      timed = sym (timed_is x.delivered.update.entry.order) ∙ ap (λ (u : Update). is_timed u.order) parts.1 ∙ two.1;
+      update = parts.1;
     }
 
 timed_below : (x y : Line) → IsNamed x → IsNamed y → TimedAbove x y → TimedBelow (shown_of y) (shown_of x)
@@ -237,7 +223,7 @@ timed_below x y named named' above who incarnation p q is is' passes passes' =
     subst (λ (u : Update). Below (mark_of p.update) (mark_of u)) b.update
     (subst (λ (u : Update). Below (mark_of u) (mark_of (update_printed x.delivered.update))) a.update
     (below_mark (entries.mark_of y.delivered.update.entry) (entries.mark_of x.delivered.update.entry)
-    (above (same_member y.member x.member (named' ∙ who ∙ sym named) incarnation) q.position p.position b.place a.place b.timed a.timed)))
+    (above (one_member y.member x.member (named' ∙ who ∙ sym named) incarnation) q.position p.position b.place a.place b.timed a.timed)))
 
 lines_below : (lines : List Line) → AllByRecursion IsNamed lines → InTurn TimedAbove lines → InTurn (λ (later earlier : Line). TimedBelow (shown_of earlier) (shown_of later)) lines
 lines_below [] named turn = tt
@@ -246,7 +232,7 @@ lines_below (x ∷ older) named turn =
 
 -- what a row passes is shown by it
 pass_shown : (r : Row) (p : Pass) → In p r.passes → In (shown_by r (Passed p)) (shown_in r)
-pass_shown r p i = in_map (shown_by r) (deliveries_in r) (Passed p) (in_first (Passed p) (map Passed r.passes) (map Early r.earlies) (in_map Passed r.passes p i))
+pass_shown r p i = in_map (shown_by r) (deliveries_in r) (Passed p) (pass_there r p i)
 
 -- Rows of which each two such passes are in ascent are in timed order.
 timed_of_turn : (rows : List Row) → RowsInTurn TimedBelow rows → TimedOrder rows

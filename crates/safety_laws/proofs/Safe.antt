@@ -1,7 +1,7 @@
 -- The rows of each schedule are safe.
 use Rattle.std.proofs.Common.{◌≡◌, sym, ap, subst, ◌∙◌, ℕ, suc, ◌+◌, ◌≤◌, true, List, [], ◌∷◌, ◌++◌, length, Some, slice_get, arith}
 use Rattle.std.proofs.lemmas.List.{length-append}
-use Rattle.std.proofs.lemmas.Option.{same_Some}
+use Rattle.std.proofs.lemmas.Option.{same_Some, slice_get_within}
 use Rattle.tw_types.specs.declared.team.Team.{Team}
 use Rattle.tw_types.specs.Team.{IsSound}
 use Rattle.tw_types.specs.declared.message.Member.{Member}
@@ -22,13 +22,14 @@ use Rattle.safety_laws.specs.Groups.{OfGroups}
 use Rattle.safety_laws.specs.Seen.{IsFlagOf}
 use Rattle.safety_laws.specs.Ups.{WasUp}
 use Rattle.safety_laws.proofs.DeliverAlike.{deliver_alike}
+use Rattle.safety_laws.proofs.FirstDecisions.{one_member}
 use Rattle.safety_laws.proofs.GroupLaws.{grouped_well, agreed}
 use Rattle.safety_laws.proofs.Induction.{earlier}
 use Rattle.safety_laws.proofs.LeasedLists.{HasLeased, leased}
 use Rattle.safety_laws.proofs.Lists.{of_each}
 use Rattle.safety_laws.proofs.MadeLines.{ArePrinted, are_printed, members_of_made, started_is_made}
 use Rattle.safety_laws.proofs.OneGroupLists.{IsFirstOf, none_above, own_started}
-use Rattle.safety_laws.proofs.Places.{in_exists, at_in, at_below, at_last, each_pushed, at_least_pushed}
+use Rattle.safety_laws.proofs.Places.{at_in, at_last, each_pushed, at_least_pushed, place_of}
 use Rattle.safety_laws.proofs.Quorums.{Agree}
 use Rattle.safety_laws.proofs.RowsBacked.{backed_rows}
 use Rattle.safety_laws.proofs.RowsTimed.{timed_order}
@@ -49,10 +50,7 @@ module _ (team : Team) (past : List Step) (sound : IsSound team) (ok : Admissibl
   name_of : (r : Row) (u : Up) → In u (history team past).ups → IsFlagOf r u → u.member ≡ life_of r
   name_of r u i flag =
       let named = of_each (IsNamedUp past) (history team past).ups u known.promises.names.ups i in
-      member_is u.member r.who r.incarnation (named.member ∙ flag.who) flag.incarnation
-    where
-      member_is : (m : Member) (who incarnation : ℕ) → m.who ≡ who → m.incarnation ≡ incarnation → m ≡ record { who = who; incarnation = incarnation }
-      member_is m who incarnation p q = ap (λ (w : ℕ). record { who = w; incarnation = m.incarnation }) p ∙ ap (λ (i : ℕ). record { who = who; incarnation = i }) q
+      one_member u.member (life_of r) (named.member ∙ flag.who) flag.incarnation
 
 module _ {Content : Type 0} (meaning : Meaning Content) (team : Team) (past : List Step) (sound : IsSound team) (ok : Admissible team past) where
   of_started : (r : Row) (u : Up) → In u (history team past).ups → IsFlagOf r u → (reading : ℕ) → r.reading ≡ Some reading → IsOfStarted team (rows_of meaning team past) r reading
@@ -89,9 +87,9 @@ module _ {Content : Type 0} (meaning : Meaning Content) (team : Team) (past : Li
       list = members_of_made team (history team past).promises (rows_of meaning team past) (history team past).makes printed groups.once groups.makes.arise u.last up.made
 
       name_there : (ms : List Member) → In u.member ms → Exists ms (λ k m. m ≡ life_of r)
-      name_there ms there = let k = in_exists ms u.member there in (k.0, k.1, k.2, k.3 ∙ name_of team past sound ok r u i flag)
+      name_there ms there = let k = place_of ms u.member there in (k.0, u.member, k.1, name_of team past sound ok r u i flag)
 
-  pub one_started_group : OneStartedGroup team (rows_of meaning team past)
+  one_started_group : OneStartedGroup team (rows_of meaning team past)
   one_started_group i r at reading up is = let u = flags_seen meaning team past i r at up in of_started r u.0 u.1 u.2 reading is
 
 -- ---- leased support
@@ -122,14 +120,14 @@ last_leased meaning team past i r reading sound ok at last up is =
           (
             sym line.3.who ∙ h.by,
             record {
-              not_after = let low = at_below (rows_of meaning team past) line.0 line.1 line.2 in omega arith;
+              not_after = let low = slice_get_within (rows_of meaning team past) line.0 line.1 line.2 in omega arith;
               made = rw line.3.line (h.group ∙ flag.group);
               lasts = rw line.3.reading (let lasts = h.lasts in omega arith);
             },
           ),
         )
 
-pub leased_support : {Content : Type 0} (meaning : Meaning Content) (team : Team) (past : List Step) → IsSound team → Admissible team past → LeasedSupport team (rows_of meaning team past)
+leased_support : {Content : Type 0} (meaning : Meaning Content) (team : Team) (past : List Step) → IsSound team → Admissible team past → LeasedSupport team (rows_of meaning team past)
 leased_support meaning team [] sound ok = λ i r e. absurd (cc)
 leased_support meaning team (s ∷ past) sound ok =
     each_pushed (λ i r. (reading : ℕ) → r.up ≡ true → r.reading ≡ Some reading → AtLeast (majority team) (rows ++ last ∷ []) (HasLease team i r.group reading)) rows last

@@ -1,6 +1,5 @@
 -- The history is what the rows and the datagrams of a schedule show.
-use Rattle.std.proofs.Common.{◌≡◌, ◌≢◌, refl, sym, ap, subst, ◌∙◌, inl, inr, ℕ, zero, suc, ◌<◌, Bool, true, false, List, [], ◌∷◌, ◌++◌, Option, Some, None, IfSome, slice_get}
-use Rattle.std.proofs.lemmas.Option.{same_Some}
+use Rattle.std.proofs.Common.{◌≡◌, ◌≢◌, refl, sym, ap, subst, ◌∙◌, inl, inr, ℕ, ◌<◌, Bool, true, false, List, [], ◌∷◌, ◌++◌, Option, Some, None, IfSome}
 use Rattle.std.specs.List.{AllByRecursion}
 use Rattle.std.specs.Option.{option_map}
 use Rattle.tw_types.specs.declared.message.Decision.{Decision}
@@ -28,8 +27,9 @@ use Rattle.tw_machine.proofs.Steps.{viewed_after}
 use Rattle.tw_types.specs.Items.{In}
 use Rattle.safety_laws.specs.Mail.{TellsGiven}
 use Rattle.safety_laws.specs.Seen.{IsMadeLineOf, IsSentLineOf, IsFlagOf, IsKeptPromise}
-use Rattle.safety_laws.proofs.Induction.{earlier, Turn, turn}
+use Rattle.safety_laws.proofs.Induction.{earlier, Turn, turn, by_turn}
 use Rattle.safety_laws.proofs.MadeTold.{AgreesOnMade, step_agrees}
+use Rattle.safety_laws.proofs.Places.{each_pushed, exists_pushed, exists_last}
 use Rattle.safety_laws.proofs.Promises.{promised_well}
 use Rattle.safety_laws.proofs.SendsTold.{AgreesOnSent, step_agrees_on_sent}
 
@@ -48,39 +48,21 @@ record AreSeen {I : Type 0} (Speaks : Row → Type 0) (Shows : Row → I → Typ
   each_row : Each rows (λ i r. Speaks r → Shown Shows items r)
   each_item : (k : I) → In k items → Exists rows (λ i r. Shows r k)
 
-pub each_pushed : (P : Row → Type 0) (rows : List Row) (last : Row) → Each rows (λ i r. P r) → P last → Each (rows ++ last ∷ []) (λ i r. P r)
-each_pushed P [] last h p zero r e = subst P (same_Some last r e) p
-each_pushed P [] last h p (suc i) r e = cc
-each_pushed P (x ∷ rows) last h p zero r e = h 0 r e
-each_pushed P (x ∷ rows) last h p (suc i) r e = each_pushed P rows last (λ k y f. h (suc k) y f) p i r e
-
-stands_before : (rows : List Row) (last : Row) (i : ℕ) (r : Row) → slice_get rows i ≡ Some r → slice_get (rows ++ last ∷ []) i ≡ Some r
-stands_before [] last i r e = absurd (cc)
-stands_before (x ∷ rows) last zero r e = e
-stands_before (x ∷ rows) last (suc i) r e = stands_before rows last i r e
-
-pub exists_before : (P : Row → Type 0) (rows : List Row) (last : Row) → Exists rows (λ i r. P r) → Exists (rows ++ last ∷ []) (λ i r. P r)
-exists_before P rows last x = (x.0, x.1, stands_before rows last x.0 x.1 x.2, x.3)
-
-pub exists_last : (P : Row → Type 0) (rows : List Row) (last : Row) → P last → Exists (rows ++ last ∷ []) (λ i r. P r)
-exists_last P [] last p = (0, last, refl, p)
-exists_last P (x ∷ rows) last p = let k = exists_last P rows last p in (suc k.0, k.1, k.2, k.3)
-
 seen_on : {I : Type 0} (Speaks : Row → Type 0) (Shows : Row → I → Type 0) (rows : List Row) (r : Row) (older newer : List I)
     → AreSeen Speaks Shows rows older → Adds Speaks Shows r older newer → AreSeen Speaks Shows (rows ++ r ∷ []) newer
 seen_on {I} Speaks Shows rows r older newer before (Nothing silent e) = record {
-  each_row = each_pushed (λ q. Speaks q → Shown Shows newer q) rows r (λ i q at speaks. let s = before.each_row i q at speaks in (s.0, rw e (s.1), s.2)) (λ speaks. absurd (silent speaks));
-  each_item = λ k i. exists_before (λ q. Shows q k) rows r (before.each_item k (subst (In k) e i));
+  each_row = each_pushed (λ i q. Speaks q → Shown Shows newer q) rows r (λ i q at speaks. let s = before.each_row i q at speaks in (s.0, rw e (s.1), s.2)) (λ speaks. absurd (silent speaks));
+  each_item = λ k i. exists_pushed (λ i q. Shows q k) rows r (before.each_item k (subst (In k) e i));
 }
 seen_on {I} Speaks Shows rows r older newer before (One k shows e) = record {
-  each_row = each_pushed (λ q. Speaks q → Shown Shows newer q) rows r
+  each_row = each_pushed (λ i q. Speaks q → Shown Shows newer q) rows r
       (λ i q at speaks. let s = before.each_row i q at speaks in (s.0, subst (In s.0) (sym e) (inr s.1), s.2)) (λ speaks. (k, subst (In k) (sym e) (inl refl), shows));
   each_item = λ x i. by x (subst (In x) e i);
 }
   where
     by : (x : I) → In x (k ∷ older) → Exists (rows ++ r ∷ []) (λ i q. Shows q x)
-    by x (inl same) = exists_last (λ q. Shows q x) rows r (subst (λ y. Shows r y) (sym same) shows)
-    by x (inr i) = exists_before (λ q. Shows q x) rows r (before.each_item x i)
+    by x (inl same) = exists_last (λ i q. Shows q x) rows r (subst (λ y. Shows r y) (sym same) shows)
+    by x (inr i) = exists_pushed (λ i q. Shows q x) rows r (before.each_item x i)
 
 -- ---- what was made
 
@@ -104,11 +86,9 @@ event_adds meaning team number already life s before older e p (AgreesOnMade.One
 
 deed_adds : {Content : Type 0} (meaning : Meaning Content) (team : Team) (past : List Step) (number already life : ℕ) (s : Step) (before : Option Process) (older : List Make) (d : Deed) → Turn team past s d
     → AddsMake meaning team number already life s before older d
-deed_adds meaning team past number already life s before older d (Turn.Starts mode act comes) = subst (AddsMake meaning team number already life s before older) (sym comes) (Nothing (λ speaks. speaks refl) refl)
-deed_adds meaning team past number already life s before older d (Turn.Stops act comes) = subst (AddsMake meaning team number already life s before older) (sym comes) (Nothing (λ speaks. speaks refl) refl)
-deed_adds meaning team past number already life s before older d (Turn.Looks p runs act comes) = subst (AddsMake meaning team number already life s before older) (sym comes) (Nothing (λ speaks. speaks refl) refl)
-deed_adds meaning team past number already life s before older d (Turn.Happens e p runs brings comes) =
-    subst (AddsMake meaning team number already life s before older) (sym comes) (event_adds meaning team number already life s before older e p (step_agrees team s.h e p))
+deed_adds meaning team past number already life s before older d t = by_turn team past s (AddsMake meaning team number already life s before older) d t
+    (λ answer mute. Nothing (λ speaks. speaks refl) refl) (λ p answer mute. Nothing (λ speaks. speaks refl) refl)
+    (λ e p runs brings. event_adds meaning team number already life s before older e p (step_agrees team s.h e p))
 
 makes_seen : {Content : Type 0} (meaning : Meaning Content) (team : Team) (past : List Step) → Admissible team past → AreSeen HasLine IsMadeLineOf (rows_of meaning team past) (history team past).makes
 makes_seen meaning team [] ok = record { each_row = λ i r e. absurd (cc); each_item = λ k i. absurd i }
@@ -138,14 +118,9 @@ event_adds_send meaning team number already life s before older e p (AgreesOnSen
 
 deed_adds_send : {Content : Type 0} (meaning : Meaning Content) (team : Team) (past : List Step) (number already life : ℕ) (s : Step) (before : Option Process) (older : List SentUpdate) (d : Deed) → Turn team past s d
     → AddsSend meaning team number already life s before older d
-deed_adds_send meaning team past number already life s before older d (Turn.Starts mode act comes) =
-    subst (AddsSend meaning team number already life s before older) (sym comes) (Nothing (λ speaks. absurd (let e = speaks.1 in cc)) refl)
-deed_adds_send meaning team past number already life s before older d (Turn.Stops act comes) =
-    subst (AddsSend meaning team number already life s before older) (sym comes) (Nothing (λ speaks. absurd (let e = speaks.1 in cc)) refl)
-deed_adds_send meaning team past number already life s before older d (Turn.Looks p runs act comes) =
-    subst (AddsSend meaning team number already life s before older) (sym comes) (Nothing (λ speaks. absurd (let e = speaks.1 in cc)) refl)
-deed_adds_send meaning team past number already life s before older d (Turn.Happens e p runs brings comes) =
-    subst (AddsSend meaning team number already life s before older) (sym comes) (event_adds_send meaning team number already life s before older e p (step_agrees_on_sent team s.h e p))
+deed_adds_send meaning team past number already life s before older d t = by_turn team past s (AddsSend meaning team number already life s before older) d t
+    (λ answer mute. Nothing (λ speaks. mute.0 speaks.0 speaks.1) refl) (λ p answer mute. Nothing (λ speaks. mute.0 speaks.0 speaks.1) refl)
+    (λ e p runs brings. event_adds_send meaning team number already life s before older e p (step_agrees_on_sent team s.h e p))
 
 sends_seen : {Content : Type 0} (meaning : Meaning Content) (team : Team) (past : List Step) → Admissible team past → AreSeen SaysSent IsSentLineOf (rows_of meaning team past) (history team past).sends
 sends_seen meaning team [] ok = record { each_row = λ i r e. absurd (cc); each_item = λ k i. absurd i }

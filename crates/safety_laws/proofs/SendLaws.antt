@@ -1,5 +1,5 @@
 -- The laws on updates that were sent, of every schedule.
-use Rattle.std.proofs.Common.{◌≡◌, refl, sym, ap, subst, ◌∙◌, inl, inr, ℕ, ◌-◌, Bool, true, false, not, ◌||◌, List, [], ◌∷◌, map, Option, Some, None, arith}
+use Rattle.std.proofs.Common.{◌≡◌, refl, sym, ap, subst, ◌∙◌, inl, inr, ℕ, ◌-◌, Bool, true, false, not, ◌||◌, List, [], ◌∷◌, Option, Some, None, arith}
 use Rattle.std.specs.List.{AllByRecursion, list_any}
 use Rattle.std.specs.Option.{option_map}
 use Rattle.tw_types.specs.declared.team.Team.{Team}
@@ -20,6 +20,7 @@ use Rattle.safety_laws.specs.Groups.{OfMember, of_groups}
 use Rattle.safety_laws.specs.Held.{held_below}
 use Rattle.safety_laws.specs.Ids.{EntryIsOfSend, MakeKeeps, ids}
 use Rattle.tw_types.specs.Items.{In}
+use Rattle.tw_types.proofs.Appended.{of_map, of_filter}
 use Rattle.safety_laws.specs.Laws.{Law, Both}
 use Rattle.safety_laws.specs.Made.{WasMade, WasMadeIfAny}
 use Rattle.safety_laws.specs.Pending.{pending}
@@ -29,7 +30,7 @@ use Rattle.safety_laws.proofs.GroupLaws.{groups_rules}
 use Rattle.safety_laws.proofs.HeldBelow.{held_below_rules}
 use Rattle.safety_laws.proofs.Ids.{ids_rules}
 use Rattle.safety_laws.proofs.IdLists.{same_id_of}
-use Rattle.safety_laws.proofs.Lists.{of_each, in_drop, in_filtered}
+use Rattle.safety_laws.proofs.Lists.{of_each, in_drop}
 use Rattle.safety_laws.proofs.Numbers.{sends_rules, seq_is_new}
 use Rattle.safety_laws.proofs.Pending.{pending_rules}
 use Rattle.safety_laws.proofs.Stack.{LawRules, Kept as Holding, OfHistory, stack, law_holds}
@@ -37,17 +38,17 @@ use Rattle.safety_laws.proofs.Supported.{supported_rules}
 
 -- ---- the laws, one on the other
 
-abbrev pub with_sends : Team → Law
+abbrev with_sends : Team → Law
 with_sends team = Both (of_groups team) sends
 
 abbrev pub with_ids : Team → Law
 with_ids team = Both (with_sends team) ids
 
 -- and those that rest on the laws on groups alone
-abbrev pub with_supported : Team → Law
+abbrev with_supported : Team → Law
 with_supported team = Both (of_groups team) (OfHistory (OfSupported team))
 
-abbrev pub with_held : Team → Law
+abbrev with_held : Team → Law
 with_held team = Both (of_groups team) held_below
 
 sends_too : (team : Team) → LawRules team (with_sends team)
@@ -71,11 +72,6 @@ settled_well team past sound ok = law_holds team pending (pending_rules team) pa
 
 -- ---- a new update of its own fills no hole
 
-in_map : {X Y : Type 0} (f : X → Y) (xs : List X) (y : Y) → In y (map f xs) → (x : X) × In x xs × (f x ≡ y)
-in_map f [] y i = absurd i
-in_map f (x ∷ xs) y (inl e) = (x, inl refl, sym e)
-in_map f (x ∷ xs) y (inr i) = let k = in_map f xs y i in (k.0, inr k.1, k.2)
-
 none_any : {X : Type 0} (test : X → Bool) (xs : List X) → ((x : X) → In x xs → test x ≡ true → ⊥) → list_any test xs ≡ false
 none_any test [] f = refl
 none_any test (x ∷ xs) f = go (test x) refl (none_any test xs (λ y i. f y (inr i)))
@@ -86,10 +82,9 @@ none_any test (x ∷ xs) f = go (test x) refl (none_any test xs (λ y i. f y (in
 
 -- what is wanted is of an entry of the decision's window
 hole_entry : (h : Held) (id : UpdateId) → In id (holes h) → (e : Entry) × In e h.decision.window.items × (e.id ≡ id)
-hole_entry h id i = go (in_map (λ (e : Entry). e.id) (entries_from h.first h.decision) id (in_filtered (λ (z : UpdateId). not (has_update z h.payloads)) (ids_from h.first h.decision) id i))
-  where
-    go : (e : Entry) × In e (entries_from h.first h.decision) × (e.id ≡ id) → (e : Entry) × In e h.decision.window.items × (e.id ≡ id)
-    go k = (k.0, in_drop (h.first - h.decision.low) h.decision.window.items k.0 k.1, k.2)
+hole_entry h id i =
+    let k = of_map (λ (e : Entry). e.id) (entries_from h.first h.decision) id (of_filter (λ (z : UpdateId). not (has_update z h.payloads)) (ids_from h.first h.decision) id i).0 in
+    (k.0, in_drop (h.first - h.decision.low) h.decision.window.items k.0 k.1, sym k.2)
 
 -- the id of an update that was sent isn't the next one
 sent_before : (steps : List Step) (w : Written) (who : ℕ) (p : Process) → p.identity.who ≡ who → AllByRecursion (IsOfSender steps) w.sends → Sends steps w who p → (z : SentUpdate) → In z w.sends → id_of z ≡ next_id p → ⊥

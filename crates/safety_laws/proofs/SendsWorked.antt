@@ -14,7 +14,7 @@ use Rattle.tw_types.specs.declared.message.Decision.{Decision}
 use Rattle.tw_types.specs.declared.message.Seat.{Seat}
 use Rattle.tw_types.specs.declared.message.Support.{Support}
 use Rattle.tw_types.specs.declared.step.Act.{Act}
-use Rattle.tw_types.specs.declared.step.Act.TheVariants.{First, Tick, Recv, Send, Reference}
+use Rattle.tw_types.specs.declared.step.Act.TheVariants.{Tick, Recv, Send}
 use Rattle.tw_types.specs.declared.step.Step.{Step}
 use Rattle.tw_types.specs.Appending.{appended_list, appended_kept}
 use Rattle.tw_types.specs.Beliefs.{log_length}
@@ -34,10 +34,9 @@ use Rattle.tw_types.specs.Items.{In}
 use Rattle.safety_laws.specs.Made.{WasMade}
 use Rattle.safety_laws.specs.Sends.{AllSentOnce}
 use Rattle.safety_laws.specs.Supported.{IsSentInSupported, IsAppendedInSupported}
-use Rattle.safety_laws.proofs.Lists.{of_each, each_weaker}
-
-abbrev pub at : ℕ → ℕ → ℕ → Act → Step
-at t who h act = record { t = t; who = who; h = h; act = act }
+use Rattle.safety_laws.proofs.Lists.{of_each, each_weaker, each_passes}
+use Rattle.safety_laws.proofs.NextDecisions.{any_in}
+use Rattle.safety_laws.proofs.Worked.{at, formed}
 
 abbrev says : ℕ → Act
 says byte = Send orders.Total atoms.Weak (record { items = byte ∷ [] })
@@ -52,21 +51,7 @@ ordered =
     ∷ at 714000 1 714000 (says 98)
     ∷ at 714000 1 714000 (says 97)
     ∷ at 713000 0 713000 (Recv 13)
-    ∷ at 713000 1 713000 (Recv 14)
-    ∷ at 712000 2 712000 Tick
-    ∷ at 703000 2 703000 (Recv 12)
-    ∷ at 702000 1 702000 (Recv 8)
-    ∷ at 702000 1 702000 (Recv 5)
-    ∷ at 701000 2 701000 (Recv 2)
-    ∷ at 701000 0 701000 (Recv 1)
-    ∷ at 700000 1 700000 Tick
-    ∷ at 700000 2 700000 (Reference 700000 700000)
-    ∷ at 700000 1 700000 (Reference 700000 700000)
-    ∷ at 700000 0 700000 (Reference 700000 700000)
-    ∷ at 699990 2 699990 First
-    ∷ at 699990 1 699990 First
-    ∷ at 699990 0 699990 First
-    ∷ []
+    ∷ formed
 
 abbrev id : (who seq : ℕ) → UpdateId
 id who seq = record { who = who; incarnation = 699990; seq = seq }
@@ -200,23 +185,6 @@ not_twice all = all.0.0 refl
 
 -- ---- supported groups
 
--- a test that some item passes, or that all pass
-some_passes : {X : Type 0} (test : X → Bool) (xs : List X) → list_any test xs ≡ true → (x : X) × In x xs × (test x ≡ true)
-some_passes test [] e = absurd (cc)
-some_passes {X = X} test (x ∷ xs) e = go (test x) refl e (some_passes test xs)
-  where
-    go : (b : Bool) → test x ≡ b → (b || list_any test xs) ≡ true → (list_any test xs ≡ true → (y : X) × In y xs × (test y ≡ true)) → (y : X) × In y (x ∷ xs) × (test y ≡ true)
-    go true passes f rest = (x, inl refl, passes)
-    go false passes f rest = let found = rest f in (found.0, inr found.1, found.2)
-
-each_passes : {X : Type 0} (test : X → Bool) (xs : List X) → list_all test xs ≡ true → AllByRecursion (λ x. test x ≡ true) xs
-each_passes test [] e = tt
-each_passes test (x ∷ xs) e = go (test x) refl e (each_passes test xs)
-  where
-    go : (b : Bool) → test x ≡ b → (b && list_all test xs) ≡ true → (list_all test xs ≡ true → AllByRecursion (λ y. test y ≡ true) xs) → (test x ≡ true) × AllByRecursion (λ y. test y ≡ true) xs
-    go true passes f rest = (passes, rest f)
-    go false passes f rest = absurd (cc)
-
 abbrev has_majority : Decision → Bool
 has_majority d = nat_le (team_a.n / 2 + 1) (count_by (λ (s : Seat). is_some s.support) d.seats.items)
 
@@ -239,7 +207,7 @@ each_supported = refl
 -- and what the test says is what the law says
 supported_by : (makes : List Make) (z : SentUpdate) → list_any (supports_send z) makes ≡ true → IsSentInSupported team_a makes z
 supported_by makes z e =
-    let some = some_passes (supports_send z) makes e in
+    let some = any_in (supports_send z) makes e in
     let test : supports_send z some.0 ≡ true = some.2 in
     (some.0, some.1, record { group_is = grind (arith, nat_tests); seat = grind (arith, nat_tests); majority = grind (arith, nat_tests) })
 
@@ -296,7 +264,7 @@ any_appends = refl
 
 -- there are makes with appended entries
 some_append : (m : Make) × In m (history team_a ordered).makes × (not (is_none m.making.appended) ≡ true)
-some_append = some_passes (λ m. not (is_none m.making.appended)) (history team_a ordered).makes any_appends
+some_append = any_in (λ m. not (is_none m.making.appended)) (history team_a ordered).makes any_appends
 
 -- each make with appended entries stands on a made decision with supports of a majority
 appended : (m : Make) → In m (history team_a ordered).makes → IsAppendedInSupported team_a (history team_a ordered).makes m

@@ -28,16 +28,16 @@ some_or_none [] = inr refl
 some_or_none (x ∷ xs) = inl (λ e. cc)
 
 -- a make of this group that appended something
-pub record Adds (group : ℕ) (k : Make) : Type 0 where
-  pub group_is : k.making.decision.group ≡ group
-  pub some : k.making.appended ≢ []
+record Adds (group : ℕ) (k : Make) : Type 0 where
+  group_is : k.making.decision.group ≡ group
+  some : k.making.appended ≢ []
 
 -- one of these makes did
-abbrev pub Adder : ℕ → List Make → Type 0
+abbrev Adder : ℕ → List Make → Type 0
 Adder group xs = (k : Make) × In k xs × Adds group k
 
 -- none of them did
-abbrev pub AddsNone : ℕ → List Make → Type 0
+abbrev AddsNone : ℕ → List Make → Type 0
 AddsNone group xs = (k : Make) → In k xs → k.making.decision.group ≡ group → k.making.appended ≡ []
 
 -- one of the two
@@ -61,11 +61,11 @@ adder_or_none group (x ∷ xs) = by (adder_or_none group xs)
     by (inr rest) = own rest (cases_lt x.making.decision.group group) (cases_lt group x.making.decision.group) (some_or_none x.making.appended)
 
 -- a made decision of this group with supports of a majority
-abbrev pub Backed : Team → List Make → ℕ → Type 0
+abbrev Backed : Team → List Make → ℕ → Type 0
 Backed team makes group = (lower : Make) × In lower makes × (lower.making.decision.group ≡ group) × HasMajority team lower.making.decision
 
 -- a make adds nothing, if it is of a group above this one and up to that
-abbrev pub SilentMake : (above upto : ℕ) → Make → Type 0
+abbrev SilentMake : (above upto : ℕ) → Make → Type 0
 SilentMake above upto x = above < x.making.decision.group → x.making.decision.group ≤ upto → x.making.appended ≡ []
 
 module _ (team : Team) (promises : List Promised) (makes : List Make) (k : HaveLists team promises makes) (agree : Agree team promises makes) (appended : AllByRecursion (IsAppendedInSupported team makes) makes) where

@@ -39,7 +39,7 @@ use Rattle.safety_laws.proofs.Effects.{IsRead, join}
 use Rattle.safety_laws.proofs.Events.{mail_of, mail_is, event_row, look_row, read_is_greatest}
 
 -- nothing was written down before the first step
-abbrev pub nothing_written : Written
+abbrev nothing_written : Written
 nothing_written = record { promises = []; makes = []; sends = []; lines = []; ups = []; sent = [] }
 
 -- what is known of a step beside its effects: its process, its life, its clock, and that it received what was sent to it
@@ -87,7 +87,7 @@ first_of a b steps before who x k = record { history = k.history.0; own = k.own.
 pub second_of : (a b : Law) (steps : List Step) (before : World) (who : ℕ) (x : State) → Holds (Both a b) steps before who x → Holds b steps before who x
 second_of a b steps before who x k = record { history = k.history.1; own = k.own.1; others = λ q p other runs. (k.others q p other runs).1 }
 
-pub both_of : (a b : Law) (steps : List Step) (before : World) (who : ℕ) (x : State) → Holds a steps before who x → Holds b steps before who x → Holds (Both a b) steps before who x
+both_of : (a b : Law) (steps : List Step) (before : World) (who : ℕ) (x : State) → Holds a steps before who x → Holds b steps before who x → Holds (Both a b) steps before who x
 both_of a b steps before who x j k = record { history = (j.history, k.history); own = (j.own, k.own); others = λ q p other runs. (j.others q p other runs, k.others q p other runs) }
 
 -- A law whose effects may cite an earlier law before and after the effect is, joined with that law, a law.
@@ -118,9 +118,9 @@ sent_stays here x y (Change.Raise c) k i = rw c.written i
 mailed_still : (here : Here) (x y : State) → Change here x y → IsMailed here x.written → IsMailed here y.written
 mailed_still here x y c mailed d is = let k = mailed d is in (k.0, sent_stays here x y c k.0 k.1, k.2, k.3, k.4)
 
-pub record Reached (law : Law) (past : List Step) (s : Step) (before : World) (here : Here) (x : State) : Type 0 where
-  pub mailed : IsMailed here x.written
-  pub holds : Holds law (s ∷ past) before s.who x
+record Reached (law : Law) (past : List Step) (s : Step) (before : World) (here : Here) (x : State) : Type 0 where
+  mailed : IsMailed here x.written
+  holds : Holds law (s ∷ past) before s.who x
 
 along : (team : Team) (law : Law) (past : List Step) (s : Step) (here : Here) (x y : State) → LawRules team law → Stepping team past s here → Changes here x y → Reached law past s (world team past) here x → Reached law past s (world team past) here y
 along team law past s here x y rules at Changes.Done k = k
@@ -312,7 +312,7 @@ module _ (team : Team) (law : Law) (rules : LawRules team law) (past : List Step
   after_turn (Turn.Looks p runs act comes) = subst (λ o. After team law past s (written team (s ∷ past)) o) (ap (λ (d : Deed). d.process) (sym comes)) (seen p runs act comes)
   after_turn (Turn.Happens e p runs brings comes) = subst (λ o. After team law past s (written team (s ∷ past)) o) (ap (λ (d : Deed). d.process) (sym comes)) (happened e p runs brings comes)
 
-  pub advanced : Kept team law (s ∷ past)
+  advanced : Kept team law (s ∷ past)
   advanced = record { history = end.history; running = λ who p. go who p (nat_eq s.who who) refl }
     where
       end : After team law past s (written team (s ∷ past)) (deed_in team (world team past) s).process
@@ -350,6 +350,10 @@ rests_on team part whole law is rules = record {
       rules.changes past s here x y at mailed change (part_holds part whole (s ∷ past) (world team past) s.who x is before) (part_holds part whole (s ∷ past) (world team past) s.who y is after) k;
 }
 
+-- A law that rests on none may rest on any.
+pub over_any : (team : Team) (earlier law : Law) → LawRules team law → RulesOver team earlier law
+over_any team earlier law rules = rests_on team no_law earlier law (record { history = λ steps w k. tt; running = λ steps w who p k. tt }) rules
+
 -- a law on what was written down alone
 abbrev pub OfHistory : (Written → Type 0) → Law
 OfHistory H = record { History = λ steps w. H w; Running = λ steps w who p. Unit {0} }
@@ -372,14 +376,14 @@ pub record IsSameLaw (a b : Law) : Type 0 where
   pub running : (steps : List Step) (w : Written) (who : ℕ) (p : Process) → a.Running steps w who p → b.Running steps w who p
   pub running_back : (steps : List Step) (w : Written) (who : ℕ) (p : Process) → b.Running steps w who p → a.Running steps w who p
 
-pub renamed_holds : (a b : Law) (steps : List Step) (before : World) (who : ℕ) (x : State) → IsSameLaw a b → Holds a steps before who x → Holds b steps before who x
+renamed_holds : (a b : Law) (steps : List Step) (before : World) (who : ℕ) (x : State) → IsSameLaw a b → Holds a steps before who x → Holds b steps before who x
 renamed_holds a b steps before who x same k = record {
   history = same.history steps x.written k.history;
   own = same.running steps x.written who x.process k.own;
   others = λ q p other runs. same.running steps x.written q p (k.others q p other runs);
 }
 
-pub renamed_back : (a b : Law) → IsSameLaw a b → IsSameLaw b a
+renamed_back : (a b : Law) → IsSameLaw a b → IsSameLaw b a
 renamed_back a b same = record { history = same.history_back; history_back = same.history; running = same.running_back; running_back = same.running }
 
 pub renamed : (team : Team) (a b : Law) → IsSameLaw a b → LawRules team a → LawRules team b

@@ -1,6 +1,6 @@
 -- What is passed as strong or strict and not late has its position in its group and in all greater ones, and so has what is delivered
 -- early as such, which has it alone.
-use Rattle.std.proofs.Common.{◌≡◌, ◌≢◌, refl, sym, ap, ◌∙◌, inl, inr, ℕ, suc, ◌+◌, ◌/◌, ◌≤◌, Bool, true, false, cond, ◌&&◌, List, [], ◌∷◌, length, Option, Some, None, slice_get, count_by, arith}
+use Rattle.std.proofs.Common.{◌≡◌, ◌≢◌, refl, sym, ap, ◌∙◌, ℕ, suc, ◌+◌, ◌/◌, ◌≤◌, Bool, true, false, cond, ◌&&◌, List, [], ◌∷◌, length, Option, Some, None, slice_get, count_by, arith}
 use Rattle.std.specs.List.{list_all}
 use Rattle.std.proofs.lemmas.Bool.Decides.{nat_tests}
 use Rattle.std.proofs.lemmas.List.{length-map}
@@ -22,24 +22,28 @@ use Rattle.tw_types.specs.Updates.{is_weak}
 use Rattle.tw_machine.specs.Applied.{Meaning}
 use Rattle.tw_machine.specs.History.{Promised, Line, Make, history}
 use Rattle.tw_machine.specs.Rows.{rows_of}
+use Rattle.tw_machine.specs.Run.{Place, AtPass, AtEarly, AtWait}
 use Rattle.tw_machine.specs.SafeRows.{StrongLast}
 use Rattle.tw_machine.specs.World.{Admissible}
 use Rattle.safety_laws.specs.Acknowledged.{has_acked}
 use Rattle.safety_laws.specs.Acknowledged as acknowledged
 use Rattle.safety_laws.specs.Beginnings.{unmarked}
 use Rattle.safety_laws.specs.Delivered.{HasAt, IsBacked}
+use Rattle.safety_laws.specs.Early.{is_early}
 use Rattle.safety_laws.specs.Effects.{written}
 use Rattle.safety_laws.specs.Groups.{OfGroups}
 use Rattle.safety_laws.specs.Lists.{GoByOne, IsListOf, AreLists}
 use Rattle.safety_laws.specs.Made.{AllArise}
+use Rattle.safety_laws.proofs.Begun.{have_lists}
 use Rattle.safety_laws.proofs.DeliveryLaws.{with_delivered, delivered_well}
 use Rattle.safety_laws.proofs.Groups.{are_majority}
-use Rattle.safety_laws.proofs.LinesOfRows.{IsEarlyOf, IsEarlyPlace, pass_told, early_told}
+use Rattle.safety_laws.proofs.LinesOfRows.{IsEarlyOf, pass_told, early_told}
 use Rattle.safety_laws.proofs.Lists.{of_each}
-use Rattle.safety_laws.proofs.ListsAt.{agree_at, lists_at}
+use Rattle.safety_laws.proofs.ListsAt.{agree_at}
 use Rattle.safety_laws.proofs.PassesAgree.{HasPass, has_pass}
 use Rattle.safety_laws.proofs.Positions.{KeepsAt, keeps_at, same_kept, kept_position}
 use Rattle.safety_laws.proofs.Stack.{Kept as Holding}
+use Rattle.safety_laws.proofs.Supported.{count_weaker}
 
 -- ---- what is fulfilled is acknowledged
 
@@ -48,28 +52,20 @@ acked_beyond : (i : ℕ) (o : Option Support) → reaches i o ≡ acknowledged.r
 acked_beyond i None = refl
 acked_beyond i (Some support) = refl
 
-counted : (test : Seat → Bool) (s : Seat) (seats : List Seat) → count_by test (s ∷ seats) ≡ cond (test s) 1 0 + count_by test seats
-counted test s seats = sum_by-cons (λ (x : Seat). cond (test x) 1 0) s seats
-
-count_beyond : (i : ℕ) (seats : List Seat) → count_by (λ (s : Seat). reaches i s.support) seats ≡ count_by (has_acked (suc i)) seats
-count_beyond i [] = refl
-count_beyond i (s ∷ seats) =
-    counted (λ (x : Seat). reaches i x.support) s seats
-    ∙ ap (λ (b : Bool). cond b 1 0 + count_by (λ (x : Seat). reaches i x.support) seats) (acked_beyond i s.support)
-    ∙ ap (λ n. cond (has_acked (suc i) s) 1 0 + n) (count_beyond i seats)
-    ∙ sym (counted (has_acked (suc i)) s seats)
+count_beyond : (i : ℕ) (seats : List Seat) → count_by (λ (s : Seat). reaches i s.support) seats ≤ count_by (has_acked (suc i)) seats
+count_beyond i seats = count_weaker (λ (s : Seat). reaches i s.support) (has_acked (suc i)) seats (λ s e. sym (acked_beyond i s.support) ∙ e)
 
 -- where each passes they are all
 count_all : (test : Seat → Bool) (seats : List Seat) → list_all test seats ≡ true → count_by test seats ≡ length seats
 count_all test [] all = refl
-count_all test (s ∷ seats) all = counted test s seats ∙ go (test s) all (count_all test seats)
+count_all test (s ∷ seats) all = sum_by-cons (λ (x : Seat). cond (test x) 1 0) s seats ∙ go (test s) all (count_all test seats)
   where
     go : (b : Bool) → (b && list_all test seats) ≡ true → (list_all test seats ≡ true → count_by test seats ≡ length seats) → cond b 1 0 + count_by test seats ≡ suc (length seats)
     go true e rest = let more = rest e in omega (arith, more)
     go false e rest = absurd (cc)
 
 -- What a made decision fulfils as strong or strict a majority of the team acknowledged.
-pub fulfilled_acked : (team : Team) (promises : List Promised) (makes : List Make) → AllArise team promises makes → (m : Make) → In m makes → (i : ℕ) (atom : Atom) → atom ≢ Weak
+fulfilled_acked : (team : Team) (promises : List Promised) (makes : List Make) → AllArise team promises makes → (m : Make) → In m makes → (i : ℕ) (atom : Atom) → atom ≢ Weak
     → fulfils team m.making.decision i atom ≡ true → team.n / 2 + 1 ≤ count_by (has_acked (suc i)) m.making.decision.seats.items
 fulfilled_acked team promises makes arise m among i Weak strong fulfilled = absurd (strong refl)
 fulfilled_acked team promises makes arise m among i Strong strong fulfilled =
@@ -160,11 +156,11 @@ module _ {Content : Type 0} (meaning : Meaning Content) (team : Team) (past : Li
       let x = pass_told meaning team past sound ok i r at k p at' in
       let b = backed x.0 x.1 in
       let told = b.passed p.position p.how x.2.place in
-      fulfilled_lasts x.0 b r.group p.position p.update x.2.group x.2.update strong told.0 (told.2 now)
+      fulfilled_lasts x.0 b r.group p.position p.update x.2.group (sym x.2.update) strong told.0 (told.2 now)
 
   -- and an early one that isn't weak, which is of the list
   early_lasts : (i : ℕ) (r : Row) → slice_get rows i ≡ Some r → (k : ℕ) (u : Update) → slice_get r.earlies k ≡ Some u → u.atom ≢ Weak → (position : ℕ) × Lasts team makes r.group position u
-  early_lasts i r at k u at' strong = by x.2.place
+  early_lasts i r at k u at' strong = by x.0.delivered.place refl x.2.place
     where
       x : (x : Line) × In x (history team past).lines × IsEarlyOf r u x
       x = early_told meaning team past sound ok i r at k u at'
@@ -177,16 +173,17 @@ module _ {Content : Type 0} (meaning : Meaning Content) (team : Team) (past : Li
       weak_is Strong e = absurd (cc)
       weak_is Strict e = absurd (cc)
 
-      by : IsEarlyPlace x.0.delivered.place → (position : ℕ) × Lasts team makes r.group position u
-      by (inl (position, e)) = let told = b.early position e in (position, fulfilled_lasts x.0 b r.group position u x.2.group x.2.update strong told.0 told.2)
-      by (inr e) = absurd (strong (ap (λ (z : Update). z.atom) x.2.update ∙ weak_is x.0.delivered.update.entry.atom (b.waited e).1))
+      by : (place : Place) → x.0.delivered.place ≡ place → is_early place ≡ true → (position : ℕ) × Lasts team makes r.group position u
+      by (AtPass position how) is e = absurd (cc)
+      by (AtEarly position) is e = let told = b.early position is in (position, fulfilled_lasts x.0 b r.group position u x.2.group (sym x.2.update) strong told.0 told.2)
+      by AtWait is e = absurd (strong (ap (λ (z : Update). z.atom) (sym x.2.update) ∙ weak_is x.0.delivered.update.entry.atom (b.waited is).1))
 
   -- ---- what lasts, and a pass in its group or a greater one
 
   -- the list of such a pass keeps it
   keeps : (group position : ℕ) (u : Update) (later : ℕ) (q : Pass) → (k : Lasts team makes group position u) → (b : PassesOf makes later q) → group ≤ later → KeepsAt k.make.log position k.there b.make.log
   keeps group position u later q k b low =
-      keeps_at team (history team past).promises makes (lists_at team past (written team past) groups lists) (agree_at team past (written team past) groups) lists.whole k.make b.make position k.there k.made b.made k.at k.enough
+      keeps_at team (history team past).promises makes (have_lists team past (written team past) groups lists) (agree_at team past (written team past) groups) lists.whole k.make b.make position k.there k.made b.made k.at k.enough
       (let one = k.group_is in let two = b.group_is in omega (arith, low, one, two))
 
   -- no list has an id twice

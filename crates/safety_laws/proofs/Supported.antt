@@ -1,11 +1,10 @@
 -- Updates are sent, and entries appended, in groups that a majority of the team supports.
-use Rattle.std.proofs.Common.{◌≡◌, ◌≢◌, refl, sym, ap, subst, ◌∙◌, inr, ℕ, ◌+◌, ◌≤◌, Bool, true, false, cond, ◌||◌, List, [], ◌∷◌, Option, Some, None, is_some, count_by, arith}
+use Rattle.std.proofs.Common.{◌≡◌, ◌≢◌, refl, sym, ap, subst, ◌∙◌, inr, ℕ, ◌+◌, ◌≤◌, Bool, true, false, cond, ◌||◌, List, [], ◌∷◌, Some, is_some, count_by, arith}
 use Rattle.std.specs.Prelude.{find}
 use Rattle.std.specs.List.{list_any}
 use Rattle.std.proofs.lemmas.Option.{same_Some}
 use Rattle.std.proofs.lemmas.List.Sums.{sum_by-cons}
 use Rattle.tw_types.specs.declared.team.Team.{Team}
-use Rattle.tw_types.specs.declared.message.Support.{Support}
 use Rattle.tw_types.specs.declared.message.Seat.{Seat}
 use Rattle.tw_types.specs.declared.message.Decision.{Decision}
 use Rattle.tw_types.specs.declared.step.Step.{Step}
@@ -27,6 +26,7 @@ use Rattle.tw_types.specs.Items.{In}
 use Rattle.safety_laws.specs.Laws.{Holds}
 use Rattle.safety_laws.specs.Made.{WasMade, KeepsMade}
 use Rattle.safety_laws.specs.Supported.{IsSentInSupported, IsAppendedInSupported, OfSupported}
+use Rattle.safety_laws.proofs.Leases.{counts_there}
 use Rattle.safety_laws.proofs.Lists.{each_weaker}
 use Rattle.safety_laws.proofs.MadeLists.{last_made}
 use Rattle.safety_laws.proofs.Stack.{Stepping, RulesOver, OfHistory, history_rules}
@@ -34,7 +34,7 @@ use Rattle.safety_laws.proofs.Stack.{Stepping, RulesOver, OfHistory, history_rul
 -- ---- who is up has supports of a majority
 
 -- a stronger test counts no more
-count_weaker : {X : Type 0} (p q : X → Bool) (xs : List X) → ((x : X) → p x ≡ true → q x ≡ true) → count_by p xs ≤ count_by q xs
+pub count_weaker : {X : Type 0} (p q : X → Bool) (xs : List X) → ((x : X) → p x ≡ true → q x ≡ true) → count_by p xs ≤ count_by q xs
 count_weaker p q [] f = omega arith
 count_weaker p q (x ∷ xs) f = go (p x) (q x) refl refl (f x) (count_weaker p q xs f)
   where
@@ -50,16 +50,12 @@ count_weaker p q (x ∷ xs) f = go (p x) (q x) refl refl (f x) (count_weaker p q
         by false true g low = omega arith
         by false false g low = omega arith
 
-counted : (team : Team) (t : ℕ) (support : Option Support) → counts team t support ≡ true → is_some support ≡ true
-counted team t None e = absurd (cc)
-counted team t (Some support) e = refl
-
 -- all that is used of the flag
 pub up_majority : (team : Team) (p : Process) (t : ℕ) (last : Decision) → last_decision p ≡ Some last → is_up team p.vote p.belief (Some t) ≡ true → HasMajority team last
 up_majority team p t last is up =
     let by = backing team p.vote p.belief (Some t) up in
     let same : by.last ≡ last = same_Some by.last last (sym (ap last_of by.is_last) ∙ is) in
-    let low = count_weaker (λ (s : Seat). counts team by.now s.support) (λ (s : Seat). is_some s.support) by.last.seats.items (λ s. counted team by.now s.support) in
+    let low = count_weaker (λ (s : Seat). counts team by.now s.support) (λ (s : Seat). is_some s.support) by.last.seats.items (λ s. counts_there team by.now s.support) in
     let majority = by.majority in
     subst (HasMajority team) same (omega arith)
 

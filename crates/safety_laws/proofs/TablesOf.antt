@@ -1,7 +1,6 @@
 -- The table of a process is what its group's list makes of it, up to its cursor, so in one group equal cursors show equal tables.
-use Rattle.std.proofs.Common.{◌≡◌, ◌≢◌, refl, sym, ap, subst, ◌∙◌, inl, inr, ◌⊎◌, ℕ, ◌+◌, ◌-◌, ◌≤◌, ◌<◌, Bool, true, false, cond, List, [], ◌∷◌, map, filter, length, take, fold, Option, Some, None, Result, arith}
+use Rattle.std.proofs.Common.{◌≡◌, ◌≢◌, refl, sym, ap, subst, ◌∙◌, inl, inr, ◌⊎◌, ℕ, ◌+◌, ◌-◌, ◌≤◌, Bool, true, false, cond, List, [], ◌∷◌, map, filter, length, take, fold, Option, Some, None, Result, arith}
 use Rattle.std.specs.Option.{option_map_or}
-use Rattle.std.proofs.lemmas.Bool.{cases_lt}
 use Rattle.std.proofs.lemmas.List.{take-map}
 use Rattle.tw_types.specs.declared.answer.Reason.{Reason}
 use Rattle.tw_types.specs.declared.datagram.Datagram.{Datagram}
@@ -34,7 +33,7 @@ use Rattle.tw_machine.specs.Standing.{member_of}
 use Rattle.tw_machine.specs.Step.{answer_by, row_answer, event_rule, learnt_by, moment_of, read_by, step, looked}
 use Rattle.tw_machine.specs.World.{Deed, silent, deed_in, world, Admissible}
 use Rattle.tw_machine.proofs.Ends.{by_event, by_proposing}
-use Rattle.safety_laws.specs.Beginnings.{unmarked, IsEndOfKnown}
+use Rattle.safety_laws.specs.Beginnings.{unmarked, IsEndOfKnown, IsBeginning}
 use Rattle.safety_laws.specs.Effects.{written}
 use Rattle.safety_laws.specs.Groups.{OfGroups, OfMember}
 use Rattle.safety_laws.specs.Made.{WasMade, KeepsMade}
@@ -46,8 +45,8 @@ use Rattle.safety_laws.proofs.DeliveryLaws.{with_delivered, delivered_well}
 use Rattle.safety_laws.proofs.Induction.{earlier, Turn, turn}
 use Rattle.safety_laws.proofs.MadeLists.{More, last_made}
 use Rattle.safety_laws.proofs.Passed.{whole_list}
-use Rattle.safety_laws.proofs.Prefixes.{HaveLists, begins_first, extend, list_of_made}
-use Rattle.safety_laws.proofs.Seen.{each_pushed}
+use Rattle.safety_laws.proofs.Places.{each_pushed}
+use Rattle.safety_laws.proofs.Prefixes.{HaveLists, begins_first, list_of_made, one_begins}
 use Rattle.safety_laws.proofs.Stack.{Kept as Holding}
 
 -- ---- of one process
@@ -77,7 +76,7 @@ applied_of_list makes p base ends informed =
     ∙ ap payloads_in (sym (take-map unmarked p.log.passed p.log.entries) ∙ ap (take p.log.passed) (whole_list makes p (list_of makes (view_decision p.belief)) base ends informed refl))
 
 -- so is its table
-pub table_is : {Content : Type 0} (meaning : Meaning Content) (makes : List Make) (p : Process) (last : Option Decision) → p.belief ≡ Informed last → p.log.base ≡ 0 → IsEndOfKnown makes p
+table_is : {Content : Type 0} (meaning : Meaning Content) (makes : List Make) (p : Process) (last : Option Decision) → p.belief ≡ Informed last → p.log.base ≡ 0 → IsEndOfKnown makes p
     → table_of meaning p ≡ Some (content_at meaning (list_of makes last) p.log.passed)
 table_is meaning makes p last belief base ends =
     ap (λ (b : Belief). table_by meaning b p.log) belief
@@ -183,7 +182,7 @@ looks_show : {Content : Type 0} (meaning : Meaning Content) (team : Team) (past 
     → Each (rows_of meaning team past) (λ i r. r.answer ≡ RowAnswer.Look → 1 ≤ r.group → ShowsTable meaning (history team past).makes r)
 looks_show meaning team [] sound ok = λ i r e. absurd (cc)
 looks_show meaning team (s ∷ past) sound ok =
-    each_pushed (λ r. r.answer ≡ RowAnswer.Look → 1 ≤ r.group → ShowsTable meaning (history team (s ∷ past)).makes r) (rows_of meaning team past) (row_of meaning team past s)
+    each_pushed (λ i r. r.answer ≡ RowAnswer.Look → 1 ≤ r.group → ShowsTable meaning (history team (s ∷ past)).makes r) (rows_of meaning team past) (row_of meaning team past s)
     (λ i r at look some. shows_more meaning (history team past).makes (history team (s ∷ past)).makes r (makes_more team past s) (looks_show meaning team past sound (earlier team past s ok) i r at look some))
     (last_shows meaning team past s sound ok (turn team past s ok))
 
@@ -192,11 +191,11 @@ looks_show meaning team (s ∷ past) sound ok =
 -- lists of one group have the same first updates, as many as both have
 same_first : (team : Team) (promises : List Promised) (makes : List Make) → HaveLists team promises makes → (a b : Make) → In a makes → In b makes → a.making.decision.group ≡ b.making.decision.group
     → (n : ℕ) → n ≤ length a.log → n ≤ length b.log → take n a.log ≡ take n b.log
-same_first team promises makes k a b i j group n low high = by (cases_lt a.making.decision.turn b.making.decision.turn)
+same_first team promises makes k a b i j group n low high = by (one_begins team promises makes k a b i j group)
   where
-    by : (a.making.decision.turn < b.making.decision.turn) ⊎ (b.making.decision.turn ≤ a.making.decision.turn) → take n a.log ≡ take n b.log
-    by (inl less) = sym (begins_first n a.log b.log (extend team promises makes k a b i j group (omega (arith, less))) low)
-    by (inr less) = begins_first n b.log a.log (extend team promises makes k b a j i (sym group) less) high
+    by : IsBeginning a.log b.log ⊎ IsBeginning b.log a.log → take n a.log ≡ take n b.log
+    by (inl begins) = sym (begins_first n a.log b.log begins low)
+    by (inr begins) = begins_first n b.log a.log begins high
 
 -- Two looks in one group that passed as much show the same table.
 pub equal_tables : {Content : Type 0} (meaning : Meaning Content) (team : Team) (past : List Step) → IsSound team → Admissible team past → EqualTables (rows_of meaning team past)

@@ -1,9 +1,8 @@
 -- What is told of one delivery is of updates that weren't passed yet, each told once; what is delivered has no mark.
-use Rattle.std.proofs.Common.{◌≡◌, ◌≢◌, refl, sym, ap, subst, ◌∙◌, inl, inr, ◌⊎◌, ℕ, zero, suc, ◌+◌, ◌-◌, ◌≤◌, ◌<◌, Bool, true, false, cond, List, [], ◌∷◌, ◌++◌, map, length, filter, filter_map, Option, Some, None, arith}
-use Rattle.std.specs.Prelude.{◌&&◌, not}
+use Rattle.std.proofs.Common.{◌≡◌, ◌≢◌, refl, sym, subst, ◌∙◌, inl, inr, ◌⊎◌, ℕ, zero, suc, ◌+◌, ◌-◌, ◌≤◌, ◌<◌, Bool, true, false, cond, List, [], ◌∷◌, ◌++◌, map, length, filter, filter_map, Option, Some, None, arith}
+use Rattle.std.specs.Prelude.{◌&&◌}
 use Rattle.std.specs.List.{AllByRecursion, range_with_len, cons_option}
 use Rattle.std.specs.Option.{option_map, option_map_or}
-use Rattle.std.proofs.lemmas.Bool.{and_parts}
 use Rattle.std.proofs.lemmas.List.{append_assoc}
 use Rattle.tw_types.specs.declared.team.Team.{Team}
 use Rattle.tw_types.specs.declared.message.Decision.{Decision}
@@ -11,10 +10,10 @@ use Rattle.tw_types.specs.declared.message.Kept.{Kept}
 use Rattle.tw_types.specs.declared.outputs.How.TheVariants.{Now, Earlier, Late}
 use Rattle.tw_types.specs.declared.outputs.Pass.{Pass}
 use Rattle.tw_types.specs.Beliefs.{Log, log_length}
-use Rattle.tw_types.specs.Deliveries.{fulfils, may_pass, run, how_passed, passes, run_passed, early_at, may_go_early, as_early, weaks}
+use Rattle.tw_types.specs.Deliveries.{may_pass, run, how_passed, passes, run_passed, early_at, may_go_early, as_early, weaks}
 use Rattle.tw_types.specs.Items.{In}
 use Rattle.tw_types.specs.Logs.{log_at}
-use Rattle.tw_types.specs.Updates.{is_same_id, is_weak, is_unordered, may_be_early}
+use Rattle.tw_types.specs.Updates.{is_same_id, is_unordered, may_be_early}
 use Rattle.tw_types.proofs.Delivered.{run_shape}
 use Rattle.tw_machine.specs.Delivering.{delivered_at, earlies_told, all_told}
 use Rattle.tw_machine.specs.Run.{AtPass, AtEarly, AtWait, Delivered}
@@ -22,9 +21,10 @@ use Rattle.tw_machine.specs.SafeRows.{is_now}
 use Rattle.safety_laws.specs.Beginnings.{unmarked}
 use Rattle.safety_laws.specs.Early.{delivers}
 use Rattle.safety_laws.specs.Pending.{NoneTwice}
-use Rattle.safety_laws.proofs.Lists.{each_weaker}
+use Rattle.safety_laws.proofs.Lists.{each_weaker, of_each}
+use Rattle.safety_laws.proofs.Marked.{same_id}
 use Rattle.safety_laws.proofs.OneOfEach.{HasPlaces, other_id}
-use Rattle.safety_laws.proofs.PassedLists.{there_of_may, told_range, told_cons, passes_range}
+use Rattle.safety_laws.proofs.PassedLists.{there_of_may, told_range, told_cons, passes_range, early_tests, waiting_tests, each_waiting}
 
 -- ---- where it stood
 
@@ -63,10 +63,6 @@ is_of_lower log pending from to z low k = record { update = k.update; stands = s
 told_lower : (log : Log) (pending : List Kept) (from to : ℕ) (zs : List Delivered) → from ≤ to → ToldFrom log pending to zs → ToldFrom log pending from zs
 told_lower log pending from to zs low k = record { each = each_weaker (IsOf log pending to) (IsOf log pending from) zs (λ z. is_of_lower log pending from to z low) k.each; apart = k.apart }
 
--- they have the same id
-id_of : (a b : Kept) → unmarked a ≡ unmarked b → a.entry.id ≡ b.entry.id
-id_of a b same = ap (λ (k : Kept). k.entry.id) same
-
 -- what stands at a position is told before what stands behind that
 told_before : (log : Log) (pending : List Kept) (from i : ℕ) (k : Kept) (z : Delivered) (zs : List Delivered) → HasPlaces log pending → from ≤ i → log_at i log ≡ Some k → IsOf log pending from z → z.update.entry.id ≡ k.entry.id
     → ToldFrom log pending (i + 1) zs → ToldFrom log pending from (z ∷ zs)
@@ -76,7 +72,7 @@ told_before log pending from i k z zs places low at is own rest = record {
 }
   where
     other : (later : Delivered) → IsOf log pending (i + 1) later → later.update.entry.id ≢ z.update.entry.id
-    other later of same = go of.stands (sym (id_of later.update of.update of.same) ∙ same ∙ own)
+    other later of same = go of.stands (sym (same_id of.update later.update of.same) ∙ same ∙ own)
       where
         go : Stands log pending (i + 1) of.update → of.update.entry.id ≡ k.entry.id → ⊥
         go (inl there) ids = let one = places.listed there.0 i of.update k there.2 at ids in let behind = there.1 in omega (arith, one, behind)
@@ -126,22 +122,14 @@ passes_told team d log pending (suc count) first rest places may behind =
 
 -- ---- early ones
 
--- what isn't true is false
-not_true : (b : Bool) → not b ≡ true → b ≡ false
-not_true true e = absurd (cc)
-not_true false e = refl
-
 early_is_of : (team : Team) (d : Decision) (log : Log) (pending : List Kept) (i : ℕ) (k : Kept) → log_at i log ≡ Some k → early_at team d i k ≡ true → IsOf log pending i (delivered_at d (AtEarly i) (as_early k))
-early_is_of team d log pending i k at early =
-    let two = and_parts (is_unordered k.entry.order && not k.early) (fulfils team d i k.entry.atom) early in
-    let first = and_parts (is_unordered k.entry.order) (not k.early) two.0 in
-    record {
-      update = k;
-      stands = inl (i, omega arith, at);
-      same = refl;
-      fresh = λ now unordered. not_true k.early first.1;
-      went = λ position is. absurd (cc);
-    }
+early_is_of team d log pending i k at early = record {
+  update = k;
+  stands = inl (i, omega arith, at);
+  same = refl;
+  fresh = λ now unordered. (early_tests team d i k early).1;
+  went = λ position is. absurd (cc);
+}
 
 -- so many positions that go early, or not, and what is told behind them
 earlies_told_from : (team : Team) (d : Decision) (log new : Log) (pending : List Kept) (count first : ℕ) (rest : List Delivered) → HasPlaces log pending → ((i : ℕ) → log_at i new ≡ log_at i log) → ((from : ℕ) → ToldFrom log pending from rest)
@@ -169,26 +157,19 @@ earlies_told_from team d log new pending (suc count) first rest places same behi
 -- ---- what waits
 
 waits_is_of : (d : Decision) (log : Log) (pending : List Kept) (from : ℕ) (k : Kept) → In k pending → may_be_early k ≡ true → IsOf log pending from (delivered_at d AtWait (as_early k))
-waits_is_of d log pending from k waits early =
-    let two = and_parts (is_weak k.entry.atom && is_unordered k.entry.order) (not k.early) early in
-    record {
-      update = k;
-      stands = inr waits;
-      same = refl;
-      fresh = λ now unordered. not_true k.early two.1;
-      went = λ position is. absurd (cc);
-    }
+waits_is_of d log pending from k waits early = record {
+  update = k;
+  stands = inr waits;
+  same = refl;
+  fresh = λ now unordered. (waiting_tests k early).2;
+  went = λ position is. absurd (cc);
+}
 
 -- pending updates that go early have the ids of some that are pending
 weak_ids : (d : Decision) (k : Kept) (xs : List Kept) → AllByRecursion (λ (other : Kept). is_same_id k.entry.id other.entry.id ≡ false) xs
     → AllByRecursion (λ (later : Delivered). later.update.entry.id ≢ k.entry.id) (map (delivered_at d AtWait) (weaks xs))
-weak_ids d k [] all = tt
-weak_ids d k (x ∷ xs) all = go (may_be_early x) (weak_ids d k xs all.1)
-  where
-    go : (b : Bool) → AllByRecursion (λ (later : Delivered). later.update.entry.id ≢ k.entry.id) (map (delivered_at d AtWait) (weaks xs))
-        → AllByRecursion (λ (later : Delivered). later.update.entry.id ≢ k.entry.id) (map (delivered_at d AtWait) (map as_early (cond b (x ∷ filter may_be_early xs) (filter may_be_early xs))))
-    go true rest = (λ same. other_id k.entry.id x.entry.id all.0 (sym same), rest)
-    go false rest = rest
+weak_ids d k xs all = each_waiting (λ (later : Delivered). later.update.entry.id ≢ k.entry.id) d xs
+    (λ x i early same. other_id k.entry.id x.entry.id (of_each (λ (other : Kept). is_same_id k.entry.id other.entry.id ≡ false) xs x all i) (sym same))
 
 waits_told_from : (d : Decision) (log : Log) (pending : List Kept) (from : ℕ) (xs : List Kept) → ((k : Kept) → In k xs → In k pending) → NoneTwice xs → ToldFrom log pending from (map (delivered_at d AtWait) (weaks xs))
 waits_told_from d log pending from [] within once = record { each = tt; apart = tt }

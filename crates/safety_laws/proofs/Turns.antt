@@ -37,7 +37,7 @@ all_positive team promises = along_turns team promises (λ (m : Make). 1 ≤ m.m
 abbrev pub IsPromisedSeat : List Promised → ℕ → Seat → Type 0
 IsPromisedSeat promises group seat = (x : Promised) × In x promises × (x.promise.number ≡ group) × (x.promise.report.member ≡ seat.member)
 
-pub of_supported : (P : Member → Type 0) (who : ℕ) (support : Support) (seats : List Seat) → AllByRecursion (λ (s : Seat). P s.member) seats → AllByRecursion (λ (s : Seat). P s.member) (map (supported who support) seats)
+of_supported : (P : Member → Type 0) (who : ℕ) (support : Support) (seats : List Seat) → AllByRecursion (λ (s : Seat). P s.member) seats → AllByRecursion (λ (s : Seat). P s.member) (map (supported who support) seats)
 of_supported P who support [] all = tt
 of_supported P who support (s ∷ seats) all = (subst P (sym (supported_is who support s)) all.0, of_supported P who support seats all.1)
 

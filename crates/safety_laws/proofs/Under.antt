@@ -35,7 +35,6 @@ use Rattle.tw_types.specs.Votes.{Promise}
 use Rattle.tw_types.specs.Decisions.{or_none}
 use Rattle.tw_types.specs.Flag.{is_up}
 use Rattle.tw_machine.specs.Delivering.{all_delivered, deliver}
-use Rattle.tw_machine.specs.Beating.{is_due, is_repeated, repeat_decision, ask_again, beat_marked, beat_given, give_beat}
 use Rattle.tw_machine.specs.Control.{rate_of, timely_reading, if_timely}
 use Rattle.tw_machine.specs.Deciding.{has_turn, entries_to_add, turn_taken, take_turn}
 use Rattle.tw_machine.specs.Duties.{timed_duties, duties_if_timed, duties}
@@ -48,12 +47,12 @@ use Rattle.tw_machine.specs.Grouping.{promise_added, take_promise, make_group}
 use Rattle.tw_machine.specs.History.{Promised, life}
 use Rattle.tw_machine.specs.Rules.{kind_rule, rule}
 use Rattle.tw_machine.specs.Run.{Run, Ruled, done, dropped}
-use Rattle.tw_machine.specs.Sending.{sent_to_others}
 use Rattle.tw_machine.specs.Standing.{member_of, last_decision, report_by, promise_by}
 use Rattle.tw_machine.specs.Step.{learnt_by, moment_of, read_by, event_rule, ruled_by, has_duties, ended_by, step, looked}
 use Rattle.tw_machine.specs.Taking.{decision_tests, take_decision}
 use Rattle.tw_machine.specs.World.{Deed, deed_in, world, Admissible}
-use Rattle.tw_machine.proofs.Ends.{by_entering, by_group, by_asking, by_using, by_kept, by_putting, by_answering, by_proposing, by_event}
+use Rattle.tw_machine.proofs.Ends.{by_entering, by_group, by_using, by_kept, by_putting, by_answering, by_proposing, by_event}
+use Rattle.tw_machine.proofs.Told.{beat_keeps}
 use Rattle.safety_laws.specs.Effects.{written, held_decision}
 use Rattle.safety_laws.specs.Groups.{OfGroups, OfMember}
 use Rattle.safety_laws.specs.Under.{HadPromised, IsUnder}
@@ -298,27 +297,6 @@ deliver_belief team t r = go (is_up team r.process.vote r.process.belief (Some t
     go true = refl
     go false = refl
 
-repeat_belief : (team : Team) (now : Moment) (r : Run) → (repeat_decision team now r).process.belief ≡ r.process.belief
-repeat_belief team now r = go (last_decision r.process)
-  where
-    by_test : (last : Decision) → (test : Bool) → (cond test (sent_to_others team.n now (bodies.Decision last) r) r).process.belief ≡ r.process.belief
-    by_test last true = refl
-    by_test last false = refl
-
-    go : (o : Option Decision) → (elim o as (λ o. Run) [ None ↦ r | Some last ↦ cond (is_repeated team r.process last now.reading) (sent_to_others team.n now (bodies.Decision last) r) r ]).process.belief ≡ r.process.belief
-    go None = refl
-    go (Some last) = by_test last (is_repeated team r.process last now.reading)
-
-ask_belief : (now : Moment) (r : Run) → (ask_again now r).process.belief ≡ r.process.belief
-ask_belief now r = by_asking now r (λ s. s.process.belief ≡ r.process.belief) refl (λ id source. refl)
-
-beat_belief : (team : Team) (now : Moment) (r : Run) → (give_beat team now r).process.belief ≡ r.process.belief
-beat_belief team now r = go (is_due team.pace now.h r.process.beat)
-  where
-    go : (due : Bool) → (cond due (beat_given team now r) r).process.belief ≡ r.process.belief
-    go true = repeat_belief team now (ask_again now (beat_marked now.h r)) ∙ ask_belief now (beat_marked now.h r)
-    go false = refl
-
 timed_under : (team : Team) (now : Moment) (t : ℕ) (p : Process) (r : Run) → IsLow p → Since p r.process → ComesUnder p (timed_duties team now t r).process
 unfolding timed_duties
 timed_under team now t p r low k =
@@ -337,7 +315,7 @@ duties_under : (team : Team) (now : Moment) (p : Process) (r : Run) → IsLow p 
 unfolding duties
 duties_under team now p r low k =
     let b : Run = duties_if_timed team now now.reading r in
-    same_belief p b.process (duties team now r).process (beat_belief team now b) (if_timed_under team now now.reading p r low k)
+    same_belief p b.process (duties team now r).process (beat_keeps team now b) (if_timed_under team now now.reading p r low k)
 
 -- ---- a whole event
 

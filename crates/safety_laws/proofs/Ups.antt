@@ -20,7 +20,7 @@ use Rattle.safety_laws.proofs.MadeLists.{More, more_by, made_more, last_made, ha
 use Rattle.safety_laws.proofs.Stack.{Stepping, RulesOver, history_rules}
 
 -- The flag's definition is opened here alone: who is up has a last decision that started, with supports of a majority.
-pub up_has : (team : Team) (vote : Vote) (belief : Belief) (last : Decision) (t : ℕ) → last_of belief ≡ Some last → is_up team vote belief (Some t) ≡ true → (last.start ≤ t) × (is_supported team t last ≡ true)
+up_has : (team : Team) (vote : Vote) (belief : Belief) (last : Decision) (t : ℕ) → last_of belief ≡ Some last → is_up team vote belief (Some t) ≡ true → (last.start ≤ t) × (is_supported team t last ≡ true)
 unfolding is_up
 up_has team vote (Informed None) last t is up = absurd (cc)
 up_has team vote (Informed (Some d)) last t is up = let same : d ≡ last = cc in subst (λ (z : Decision). (z.start ≤ t) × (is_supported team t z ≡ true)) same (parts (nat_le d.start t) (is_supported team t d) refl up)

@@ -10,7 +10,7 @@ use Rattle.tw_types.specs.Promises.{is_again, is_quarantined, is_in_window}
 use Rattle.tw_types.specs.Slots.{slot_of}
 
 -- so much team time is over at the end of a quarantine, at least
-abbrev pub wait_of : Team → ℕ
+abbrev wait_of : Team → ℕ
 wait_of team = team.lease + (team.n + 4) * team.slot + 4 * team.eps + 2
 
 -- so many ticks take at least so much time

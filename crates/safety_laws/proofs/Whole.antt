@@ -1,6 +1,6 @@
 -- The list of each made decision is that of what it stands on, with what was added; and the decision says of it what is so.
 use Rattle.std.proofs.Common.{◌≡◌, ◌≢◌, refl, sym, ap, subst, ◌∙◌, ℕ, ◌+◌, ◌≤◌, ◌<◌, nat_eq, nat_le, nat_lt, Bool, true, false, ◌&&◌, ◌||◌, List, [], ◌∷◌, ◌++◌, map, length, find, Option, Some, None, Ok, arith}
-use Rattle.std.specs.List.{AllByRecursion, list_any, range_with_len}
+use Rattle.std.specs.List.{AllByRecursion, range_with_len}
 use Rattle.std.specs.Option.{option_map_or}
 use Rattle.std.proofs.lemmas.Bool.Decides.{nat_tests}
 use Rattle.std.proofs.lemmas.List.{length-map, append-nil}
@@ -16,7 +16,7 @@ use Rattle.tw_types.specs.declared.message.Report.{Report}
 use Rattle.tw_types.specs.declared.message.Seat.{Seat}
 use Rattle.tw_types.specs.declared.message.Support.{Support}
 use Rattle.tw_types.specs.declared.step.Step.{Step}
-use Rattle.tw_types.specs.Decisions.{or_none, no_decision, decision_length, is_same_member, is_seat_of, has_seat}
+use Rattle.tw_types.specs.Decisions.{or_none, no_decision, decision_length, is_seat_of, has_seat}
 use Rattle.tw_types.specs.Groups.{consistent, seated, next_of, seat_of, first_decision, group_made}
 use Rattle.tw_types.specs.Items.{In}
 use Rattle.tw_types.specs.Reports.{is_by_informed, is_consistent, goes_with}
@@ -34,70 +34,42 @@ use Rattle.safety_laws.specs.Effects.{Written, State, Here, MakeReason, Next, Gr
 use Rattle.safety_laws.specs.Groups.{of_groups}
 use Rattle.safety_laws.specs.Laws.{Both, Holds}
 use Rattle.safety_laws.specs.Lists.{seqs_of, IsListOf, AreLists, lists}
-use Rattle.safety_laws.specs.Made.{WasMade, WasMadeIfAny, WasReported, TellsLast, TellsDecision, AllArise, BallotHolds, best_of, members}
+use Rattle.safety_laws.specs.Made.{WasMade, WasMadeIfAny, WasReported, TellsLast, TellsDecision, AllArise, BallotHolds, best_of}
 use Rattle.safety_laws.specs.Once.{AllOnce}
 use Rattle.safety_laws.specs.Reported.{IsSeated, IsInformedPromise, reported}
 use Rattle.safety_laws.proofs.Added.{entries_kept}
-use Rattle.safety_laws.proofs.FirstDecisions.{IsFirstOf, first_of_ballot, were_distinct, same_member_of, in_list_any, group_is_first}
+use Rattle.safety_laws.proofs.FirstDecisions.{IsFirstOf, first_of_ballot, were_distinct, same_member_of, group_is_first}
+use Rattle.safety_laws.proofs.Groups.{seat_in_each}
 use Rattle.safety_laws.proofs.Lists.{of_each, each_weaker, each_from, each_both, found_in, any_found}
 use Rattle.safety_laws.proofs.MadeLists.{last_made}
 use Rattle.safety_laws.proofs.NextDecisions.{seat_due, next_seat, after_in}
+use Rattle.safety_laws.proofs.Prefixes.{list_of_made}
 use Rattle.safety_laws.proofs.Stack.{Stepping, RulesOver, history_rules}
-use Rattle.safety_laws.proofs.Turns.{once_same, all_positive, first_of_made}
+use Rattle.safety_laws.proofs.Turns.{all_positive}
 use Rattle.safety_laws.proofs.WholeNext.{AwaitsNext, HasList, list_has, is_list, cut_window, added_in_turn, next_has}
 
 -- ---- the list of a decision that was made
 
 -- The list that is found for it is that of its own make, of which all is said.
-pub list_made : (makes : List Make) → AllOnce makes → AllByRecursion IsListOf makes → (d : Decision) → WasMade makes d → HasList d (list_of makes (Some d))
-list_made makes once whole d was = go (find is_made makes) refl
-  where
-    is_made : Make → Bool
-    is_made m = nat_eq m.making.decision.group d.group && nat_eq m.making.decision.turn d.turn
-
-    passes : is_made was.0 ≡ true
-    passes = subst (λ (z : Decision). (nat_eq z.group d.group && nat_eq z.turn d.turn) ≡ true) (sym was.2) (grind (arith, nat_tests))
-
-    go : (o : Option Make) → find is_made makes ≡ o → HasList d (option_map_or (λ (m : Make). m.log) o [])
-    go None is = absurd (any_found is_made makes (in_list_any is_made makes was.0 was.1 passes) is)
-    go (Some m) is =
-        let found = found_in is_made makes m is in
-        let test = found.1 in
-        let group : m.making.decision.group ≡ d.group = grind (arith, nat_tests, test) in
-        let turn : m.making.decision.turn ≡ d.turn = grind (arith, nat_tests, test) in
-        let one : m ≡ was.0 = once_same makes once m was.0 found.0 was.1 (group ∙ ap (λ (z : Decision). z.group) (sym was.2), turn ∙ ap (λ (z : Decision). z.turn) (sym was.2)) in
-        subst (λ (z : Decision). HasList z m.log) (ap (λ (z : Make). z.making.decision) one ∙ was.2) (list_has m (of_each IsListOf makes m whole found.0))
+list_made : (makes : List Make) → AllOnce makes → AllByRecursion IsListOf makes → (d : Decision) → WasMade makes d → HasList d (list_of makes (Some d))
+list_made makes once whole d was =
+    subst (HasList d) (sym (list_of_made makes once d was)) (subst (λ (z : Decision). HasList z was.0.log) was.2 (list_has was.0 (of_each IsListOf makes was.0 whole was.1)))
 
 -- the empty list, where there is no decision
 none_has : HasList no_decision []
 none_has = record { same_length = refl; low = omega arith; window = refl; acks = tt; by_one = λ member. refl; next = tt; ascend = tt; mark = refl }
 
 -- and of a decision that may be missing
-pub any_made : (makes : List Make) → AllOnce makes → AllByRecursion IsListOf makes → (o : Option Decision) → WasMadeIfAny makes o → HasList (or_none o) (list_of makes o)
+any_made : (makes : List Make) → AllOnce makes → AllByRecursion IsListOf makes → (o : Option Decision) → WasMadeIfAny makes o → HasList (or_none o) (list_of makes o)
 any_made makes once whole None was = none_has
 any_made makes once whole (Some d) was = list_made makes once whole d was
 
 -- ---- who has a seat in the best decision
 
--- who has a seat is told by the members alone
-seat_by_members : (member : Member) (seats : List Seat) → list_any (is_seat_of member) seats ≡ list_any (λ (m : Member). is_same_member m member) (map (λ (s : Seat). s.member) seats)
-seat_by_members member [] = refl
-seat_by_members member (s ∷ seats) = ap (λ b. is_same_member s.member member || b) (seat_by_members member seats)
-
 module _ (team : Team) (promises : List Promised) (makes : List Make) (arise : AllArise team promises makes) (once : AllOnce makes) (tells : AllByRecursion (TellsDecision makes) promises)
     (seated_then : AllByRecursion IsSeated promises) (informed_then : AllByRecursion IsInformedPromise promises) where
-  -- decisions of one group have one list of members
-  pub same_seats : (a b : Decision) → WasMade makes a → WasMade makes b → a.group ≡ b.group → (member : Member) → has_seat member a ≡ true → has_seat member b ≡ true
-  same_seats a b made_a made_b group member seat =
-      let first = first_of_made team promises makes arise a made_a in
-      let other = first_of_made team promises makes arise b made_b in
-      let one : first.0 ≡ other.0 = once_same makes once first.0 other.0 first.1 other.1
-      (first.2.begins.group_is ∙ group ∙ sym other.2.begins.group_is, first.2.begins.turn ∙ sym other.2.begins.turn) in
-      let same : members a ≡ members b = sym first.2.same_members ∙ ap (λ (z : Make). members z.making.decision) one ∙ other.2.same_members in
-      seat_by_members member b.seats.items ∙ ap (list_any (λ (m : Member). is_same_member m member)) (sym same) ∙ sym (seat_by_members member a.seats.items) ∙ seat
-
   -- of a report that goes with a decision, its member has a seat there
-  pub seat_of_report : (number : ℕ) (r : Report) (d : Decision) → WasReported promises number r → WasMade makes d → is_consistent (Some d) r ≡ true → has_seat r.member d ≡ true
+  seat_of_report : (number : ℕ) (r : Report) (d : Decision) → WasReported promises number r → WasMade makes d → is_consistent (Some d) r ≡ true → has_seat r.member d ≡ true
   seat_of_report number r d from was fits = by_kind r.kind informed (third (nat_le d.low r.length) (nat_le r.length (decision_length d)) (goes_with r.kind r d) fits)
     where
       third : (a b c : Bool) → (a && b && c) ≡ true → c ≡ true
@@ -121,7 +93,7 @@ module _ (team : Team) (promises : List Promised) (makes : List Make) (arise : A
       told (Some z) is last same =
           let group : z.group ≡ d.group = sym last.2 ∙ ap (λ (q : Report). q.group) from.4 ∙ same in
           let seat : has_seat r.member z ≡ true = subst (λ (q : Report). has_seat q.member z ≡ true) from.4 (of_each IsSeated promises from.0 seated_then from.1 z is) in
-          same_seats z d last.0 was group r.member seat
+          seat_in_each team promises makes arise once z d last.0 was group r.member seat
 
       in_group : r.group ≡ d.group → has_seat r.member d ≡ true
       in_group = told from.0.promise.decision refl ((of_each (TellsDecision makes) promises from.0 tells from.1).informed (of_each IsInformedPromise promises from.0 informed_then from.1))

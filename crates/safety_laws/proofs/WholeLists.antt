@@ -27,7 +27,7 @@ use Rattle.safety_laws.proofs.NextDecisions.{any_in}
 -- ---- the numbers of a member
 
 -- numbers that go on where others end
-pub range_joined : (a m n : ℕ) → range_with_len a m ++ range_with_len (a + m) n ≡ range_with_len a (m + n)
+range_joined : (a m n : ℕ) → range_with_len a m ++ range_with_len (a + m) n ≡ range_with_len a (m + n)
 range_joined a zero n = let same : a + 0 ≡ a = omega arith in let none : n ≡ 0 + n = omega arith in ap (λ b. range_with_len b n) same ∙ ap (range_with_len a) none
 range_joined a (suc m) n =
     let first : a + suc m ≡ (a + 1) + m = omega arith in
@@ -57,7 +57,7 @@ counted : (member : Member) (before : List Entry) (e : Entry) → count_of membe
 counted member before e = sum_by-append (λ (x : Entry). cond (is_same_member (sender x.id) member) 1 0) before (e ∷ [])
 
 -- each seat awaits the number above these
-abbrev pub Awaits : (Member → ℕ) → Decision → Type 0
+abbrev Awaits : (Member → ℕ) → Decision → Type 0
 Awaits sent d = AllByRecursion (λ (s : Seat). s.next ≡ 1 + sent s.member) d.seats.items
 
 -- the number of an update that may come next
@@ -113,17 +113,17 @@ by_one_joined xs ys first rest member = go (seqs_of member xs) (seqs_of member y
 -- ---- marks
 
 -- the last of some marks
-abbrev pub last_mark : List TimeMark → TimeMark → TimeMark
+abbrev last_mark : List TimeMark → TimeMark → TimeMark
 last_mark [] mark = mark
 last_mark (m ∷ marks) mark = last_mark marks m
 
 -- of marks behind others
-pub last_joined : (xs ys : List TimeMark) (mark : TimeMark) → last_mark (xs ++ ys) mark ≡ last_mark ys (last_mark xs mark)
+last_joined : (xs ys : List TimeMark) (mark : TimeMark) → last_mark (xs ++ ys) mark ≡ last_mark ys (last_mark xs mark)
 last_joined [] ys mark = refl
 last_joined (x ∷ xs) ys mark = last_joined xs ys x
 
 -- the mark after some entries is that of the last one that moves it
-pub after_is_last : (es : List Entry) (mark : TimeMark) → mark_after es mark ≡ last_mark (map mark_of (filter moves_mark es)) mark
+after_is_last : (es : List Entry) (mark : TimeMark) → mark_after es mark ≡ last_mark (map mark_of (filter moves_mark es)) mark
 after_is_last [] mark = refl
 after_is_last (e ∷ es) mark =
     ap (λ o. option_map_or mark_of o mark) (ap (find moves_mark) (reverse-append (e ∷ []) es) ∙ find-append moves_mark (reverse es) (e ∷ []))
@@ -137,7 +137,7 @@ after_is_last (e ∷ es) mark =
     go false is (Some x) f rest = ap (λ o. option_map_or mark_of o mark) (sym f) ∙ rest mark
 
 -- the marks of two lists, one behind the other
-pub marks_joined : (xs ys : List Kept) → marks_of (xs ++ ys) ≡ marks_of xs ++ marks_of ys
+marks_joined : (xs ys : List Kept) → marks_of (xs ++ ys) ≡ marks_of xs ++ marks_of ys
 marks_joined xs ys =
     ap (λ es. map mark_of (filter moves_mark es)) (map-append (λ (k : Kept). k.entry) xs ys)
     ∙ ap (map mark_of) (filter-append moves_mark (entries_of xs) (entries_of ys))
@@ -153,7 +153,7 @@ above_last x [] y asc e = (e, tt)
 above_last x (z ∷ xs) y asc e = let rest = above_last z xs y asc.1 e in (above_through y z x rest.0 asc.0.0, rest)
 
 -- ascending marks, and then others above the last of them
-pub ascend_joined : (xs ys : List TimeMark) (mark : TimeMark) → MarksAscend xs → MarksAscend ys → AllByRecursion (λ (y : TimeMark). is_above y (last_mark xs mark) ≡ true) ys → MarksAscend (xs ++ ys)
+ascend_joined : (xs ys : List TimeMark) (mark : TimeMark) → MarksAscend xs → MarksAscend ys → AllByRecursion (λ (y : TimeMark). is_above y (last_mark xs mark) ≡ true) ys → MarksAscend (xs ++ ys)
 ascend_joined [] ys mark first rest above = rest
 ascend_joined (x ∷ xs) ys mark first rest above =
     (joined xs ys first.0 (each_weaker (λ (y : TimeMark). is_above y (last_mark xs x) ≡ true) (λ (y : TimeMark). is_above y x ≡ true) ys (λ y e. (above_last x xs y first e).0) above), ascend_joined xs ys x first.1 rest above)

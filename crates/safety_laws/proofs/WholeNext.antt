@@ -26,7 +26,7 @@ use Rattle.safety_laws.proofs.WholeLists.{seqs_joined, seqs_counted, seqs_added,
 -- ---- what a decision says of its list
 
 -- no support says less than this
-abbrev pub AckedFrom : ℕ → List Seat → Type 0
+abbrev AckedFrom : ℕ → List Seat → Type 0
 AckedFrom low seats = AllByRecursion (λ (s : Seat). (support : Support) → s.support ≡ Some support → low ≤ support.ack) seats
 
 -- each seat awaits the number above those of its member in the list

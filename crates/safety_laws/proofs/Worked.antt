@@ -3,7 +3,6 @@
 -- started. So their premises are met.
 use Rattle.std.proofs.Common.{◌≡◌, refl, ℕ, List, [], ◌∷◌, map, Option, Some, None}
 use Rattle.std.specs.Option.{option_map}
-use Rattle.tw_types.specs.declared.team.Team.{Team}
 use Rattle.tw_types.specs.declared.message.Report.{Report}
 use Rattle.tw_types.specs.declared.message.Seat.{Seat}
 use Rattle.tw_types.specs.declared.message.Support.{Support}
@@ -12,6 +11,7 @@ use Rattle.tw_types.specs.declared.step.Act.TheVariants.{First, Tick, Recv, Refe
 use Rattle.tw_types.specs.declared.step.Step.{Step}
 use Rattle.tw_types.specs.Decisions.{or_none}
 use Rattle.tw_types.specs.Deliveries.{run_passed, earlies_marked}
+use Rattle.tw_types.specs.Examples.{team_a}
 use Rattle.tw_types.specs.Flag.{is_up}
 use Rattle.tw_machine.specs.Duties.{timed_duties, duties}
 use Rattle.tw_machine.specs.History.{Promised, Make, Up, history}
@@ -22,11 +22,27 @@ use Rattle.tw_machine.specs.Step.{step}
 use Rattle.tw_machine.specs.World.{Admissible}
 use Rattle.tw_machine.proofs.Meanings.{no_entries}
 
-abbrev at : ℕ → ℕ → ℕ → Act → Step
+abbrev pub at : ℕ → ℕ → ℕ → Act → Step
 at t who h act = record { t = t; who = who; h = h; act = act }
 
-abbrev team_a : Team
-team_a = record { n = 3; line = 7; ppm = 0; eps = 1000; delta = 10000; pace = 20000; decide = 10000; ring = 50000; slot = 100000; lease = 400000; quarantine = 1104003; theta = 30000 }
+-- the first group forms: process 1 holds an election, 0 and 2 promise, and 1 and 2 are up in the end
+abbrev pub formed : List Step
+formed =
+    at 713000 1 713000 (Recv 14)
+    ∷ at 712000 2 712000 Tick
+    ∷ at 703000 2 703000 (Recv 12)
+    ∷ at 702000 1 702000 (Recv 8)
+    ∷ at 702000 1 702000 (Recv 5)
+    ∷ at 701000 2 701000 (Recv 2)
+    ∷ at 701000 0 701000 (Recv 1)
+    ∷ at 700000 1 700000 Tick
+    ∷ at 700000 2 700000 (Reference 700000 700000)
+    ∷ at 700000 1 700000 (Reference 700000 700000)
+    ∷ at 700000 0 700000 (Reference 700000 700000)
+    ∷ at 699990 2 699990 First
+    ∷ at 699990 1 699990 First
+    ∷ at 699990 0 699990 First
+    ∷ []
 
 abbrev one_flag : List Step
 one_flag =
@@ -42,21 +58,7 @@ one_flag =
     ∷ at 902000 0 902000 (Recv 19)
     ∷ at 901000 1 901000 (Recv 15)
     ∷ at 900000 0 900000 Tick
-    ∷ at 713000 1 713000 (Recv 14)
-    ∷ at 712000 2 712000 Tick
-    ∷ at 703000 2 703000 (Recv 12)
-    ∷ at 702000 1 702000 (Recv 8)
-    ∷ at 702000 1 702000 (Recv 5)
-    ∷ at 701000 2 701000 (Recv 2)
-    ∷ at 701000 0 701000 (Recv 1)
-    ∷ at 700000 1 700000 Tick
-    ∷ at 700000 2 700000 (Reference 700000 700000)
-    ∷ at 700000 1 700000 (Reference 700000 700000)
-    ∷ at 700000 0 700000 (Reference 700000 700000)
-    ∷ at 699990 2 699990 First
-    ∷ at 699990 1 699990 First
-    ∷ at 699990 0 699990 First
-    ∷ []
+    ∷ formed
 
 -- who promised which number, at which reading, with which last support
 abbrev votes : List Promised → List (ℕ × ℕ × ℕ × Option ℕ)

@@ -18,6 +18,3 @@ pub use laws::{
 };
 pub use machine::{Applied, Machine};
 pub use table::Table;
-
-#[cfg(test)]
-mod tests;

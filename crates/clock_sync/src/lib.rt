@@ -19,6 +19,3 @@ mod team_clock;
 
 pub use team_clock::TeamClock;
 pub use tw_num::{Disjoint, Interval};
-
-#[cfg(test)]
-mod tests;

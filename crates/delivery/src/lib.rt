@@ -10,8 +10,6 @@
 mod atomicity;
 mod laws;
 mod next;
-#[cfg(test)]
-mod tests;
 
 pub use atomicity::fulfils;
 pub use laws::{atomicities_nest, deliveries_in_turn, early_behind_strict, runs_are_longest};

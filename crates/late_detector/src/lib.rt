@@ -19,6 +19,3 @@ mod rating;
 
 pub use laws::bounds_cover_the_delay;
 pub use rating::{Rating, echo_bound, rate};
-
-#[cfg(test)]
-mod tests;

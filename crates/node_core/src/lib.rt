@@ -31,6 +31,3 @@ mod updating;
 pub use process::{Core, Event};
 pub use state::{Belief, Hold, Identity, Purpose, State, Vote};
 pub use tw_types::{Answer, Earlies, Mode, Outputs, Passes, ProposeFault, Reason, Sends, View};
-
-#[cfg(test)]
-mod tests;

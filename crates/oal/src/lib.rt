@@ -10,6 +10,3 @@
 mod list;
 
 pub use list::{ExtendFault, Oal};
-
-#[cfg(test)]
-mod tests;

@@ -12,7 +12,5 @@
 mod appending;
 mod entries;
 mod next;
-#[cfg(test)]
-mod tests;
 
 pub use appending::append;

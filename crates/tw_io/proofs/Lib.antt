@@ -1,2 +1,1 @@
 mod Buffer
-mod Copying

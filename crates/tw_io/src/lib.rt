@@ -36,6 +36,3 @@ pub use sink::{Sink, WriteFailed};
 pub use source::{ReadFailed, Source};
 pub use standard::{StandardInput, StandardOutput};
 pub use steady::{SteadyIn, SteadyLink, SteadyOut};
-
-#[cfg(test)]
-mod tests;

@@ -10,8 +10,6 @@ mod kept;
 mod pending;
 mod putting;
 mod store;
-#[cfg(test)]
-mod tests;
 
 pub use putting::Put;
 pub use store::Store;

@@ -14,6 +14,3 @@ mod writing;
 pub use reading::{blank, read, read_into};
 pub use tw_types::WireFault;
 pub use writing::write;
-
-#[cfg(test)]
-mod tests;

@@ -16,6 +16,3 @@ mod world;
 pub use laws::columns_are_of_their_events;
 pub use refused::Refused;
 pub use world::World;
-
-#[cfg(test)]
-mod tests;

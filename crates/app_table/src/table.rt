@@ -17,7 +17,7 @@ const ROOM: usize = 256;
 /// A payload of 12 bytes, a key of 4 and a value of 8, puts the value: Put, or TableFull where the key is new and there are 256.
 /// One of 4 bytes, a key, removes it: Removed, or Absent where it has no value. Any other is BadCommand. Numbers have their
 /// highest byte first. Absent, TableFull and BadCommand change nothing.
-#[derive(Debug, Drop)]
+#[derive(Drop)]
 pub struct Table {
     entries: Vec<(u32, u64)>,
 }

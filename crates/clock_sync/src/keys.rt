@@ -14,7 +14,7 @@ const RAISED: u128 = (1 << 60) * 1_000_000;
 /// What stands for all the intervals that a clock was given: the greatest `lo * (1000000 + ppm) - h * 1000000` and the
 /// least `hi * (1000000 - ppm) - h * 1000000`, each raised by `2^60 * 1000000`. Aged ends are floors of one common
 /// fraction of these, so they keep their order.
-#[derive(Clone, Copy, Debug)]
+#[derive(Clone, Copy)]
 pub struct Keys {
     pub low: u128,
     pub high: u128,

@@ -7,7 +7,7 @@ use tw_num::{Disjoint, Interval};
 /// The clock of one process since its start. The unit is one microsecond.
 ///
 /// It keeps one number for each side of what it was given, whatever the number of given intervals.
-#[derive(Clone, Copy, Debug)]
+#[derive(Clone, Copy)]
 pub struct TeamClock {
     ppm: u64,
     eps: u64,

@@ -1,26 +1,13 @@
 -- What a process keeps, part by part.
-use Rattle.std.proofs.Common.{◌≡◌, refl, sym, ap, subst, ◌∙◌, ℕ, ◌≤◌, Bool, true, false, cond, nat_eq, List, [], ◌∷◌, map, Option, Some, None, IfSome, IfNone, is_some, Result, Ok, Err, IfOk, IfErr, arith}
+use Rattle.std.proofs.Common.{◌≡◌, refl, sym, ap, subst, ◌∙◌, ℕ, ◌<◌, ◌≤◌, Bool, true, false, cond, nat_eq, List, [], ◌∷◌, map, Option, Some, None, IfSome, IfNone, is_some, Result, Ok, Err, IfOk, IfErr, arith}
 use Rattle.std.proofs.lemmas.Bool.Decides.{nat_tests}
 use Rattle.std.specs.Prelude.{MatchOption, ◌&&◌, not}
 use Rattle.std.specs.List.{AllByRecursion}
 use Rattle.std.specs.Option.{option_and_then}
 use Rattle.tw_num.specs.declared.moment.Moment.{Moment}
-use Rattle.tw_types.specs.declared.team.Team.{Team}
-use Rattle.tw_types.specs.declared.message.Decision.{Decision}
-use Rattle.tw_types.specs.declared.message.Kind.{Kind}
-use Rattle.tw_types.specs.declared.message.Member.{Member}
-use Rattle.tw_types.specs.declared.message.Report.{Report}
-use Rattle.tw_types.specs.declared.message.Entry.{Entry}
-use Rattle.tw_types.specs.declared.message.UpdateId.{UpdateId}
-use Rattle.tw_types.specs.declared.message.Kept.{Kept}
-use Rattle.tw_types.specs.declared.datagram.Why.{Why}
+use Rattle.tw_machine.specs.Types.{Team, Decision, Kind, Member, Report, Entry, UpdateId, Kept, Why, Head, Body, Ballot, Reason, Outputs, Want}
 use Rattle.tw_types.specs.declared.datagram.Why.TheVariants as whys
-use Rattle.tw_types.specs.declared.datagram.Head.{Head}
-use Rattle.tw_types.specs.declared.datagram.Body.{Body}
 use Rattle.tw_types.specs.declared.datagram.Body.TheVariants as bodies
-use Rattle.tw_types.specs.declared.ballot.Ballot.{Ballot}
-use Rattle.tw_types.specs.declared.answer.Reason.{Reason}
-use Rattle.tw_types.specs.declared.outputs.Outputs.{Outputs}
 use Rattle.tw_types.specs.Ranges.{IdFits, EntryFits, DecisionFits, IsTold}
 use Rattle.tw_types.specs.Votes.{Promise}
 use Rattle.tw_types.specs.Beliefs.{Belief, Informed, Blank, Log, log_length, last_of, view_decision}
@@ -39,7 +26,6 @@ use Rattle.tw_machine.specs.Run.{Run, Ruled, done, dropped}
 use Rattle.tw_machine.specs.Sending.{sent_to, sent_to_others}
 use Rattle.tw_machine.specs.Control.{rate_of, timely_reading, if_timely}
 use Rattle.tw_machine.specs.Taking.{decision_tests, take_decision}
-use Rattle.tw_types.specs.declared.datagram.Want.{Want}
 use Rattle.tw_machine.specs.Updating.{take_update, answer_ask}
 use Rattle.tw_machine.specs.Entering.{enter_decision}
 use Rattle.tw_machine.specs.Standing.{member_of, last_decision, report_by, promise_by}
@@ -49,7 +35,8 @@ use Rattle.tw_machine.specs.Grouping.{take_promise, begun_or_held, make_group}
 use Rattle.tw_machine.specs.Rules.{kind_rule}
 use Rattle.node_core.specs.declared.state.State.{State}
 use Rattle.node_core.specs.StandsFor.{StandsFor, RunStandsFor, identity_seen, belief_seen}
-use Rattle.tw_machine.proofs.Tables.{all_push, all_joined, all_mapped, same_number}
+use Rattle.tw_machine.proofs.Tables.{all_push, all_mapped, same_number}
+use Rattle.tw_types.proofs.Lists.{all_joined}
 use Rattle.node_core.specs.InRange.{ReportsWithin}
 use Rattle.node_core.specs.Outcomes.{if_made, made_if_complete, run_made, HoldsElection}
 use Rattle.node_core.proofs.Listing.{all_weaker, any_front}
@@ -131,7 +118,15 @@ number_of team ballot log payloads me t = go (first_objection (objections team b
     go None = refl
     go (Some why) = tt
 
--- and no greater than a number that the ballot's isn't above
+-- and it is made at the reading
+pub made_at : (team : Team) (ballot : Ballot) (log : Log) (payloads : List Kept) (me : Member) (t : ℕ) → IfOk (group_made team ballot log payloads me t) (λ d. d.made ≡ t)
+made_at team ballot log payloads me t = go (first_objection (objections team ballot log payloads me))
+  where
+    go : (o : Option NoGroup) → IfOk (elim o as (λ o. Result Decision NoGroup) [ None ↦ Ok (first_decision team ballot me t) | Some why ↦ Err why ]) (λ d. d.made ≡ t)
+    go None = refl
+    go (Some why) = tt
+
+-- and its number is no greater than a number that the ballot's isn't above
 pub number_below : (o : Option (Result Decision UpdateId)) (a b : ℕ) → IfSome o (λ made. IfOk made (λ d. d.group ≡ a)) → a ≤ b → IfSome o (λ made. IfOk made (λ d. d.group ≤ b))
 number_below None a b is less = tt
 number_below (Some (Ok d)) a b is less = rw is less
@@ -214,6 +209,15 @@ only_stuck team t me last promised quarantined o e = go (begins_slot team me las
     go : (b : Bool) → begins_slot team me last promised quarantined false t ≡ b → o ≡ cond b (Some (begun (own_promise team me last t), why_begun team last t)) None → IfSome o (λ b. b.1 ≡ whys.Stuck)
     go true begins e = let stuck : is_stuck team last t ≡ true = grind (arith, nat_tests) in rw e (rw stuck refl)
     go false begins e = rw e tt
+
+-- its number is above the one that was promised
+pub begun_above : (team : Team) (t : ℕ) (me : Report) (last : Option Decision) (promised : ℕ) (quarantined : Bool) (o : Option (Ballot × Why)) → o ≡ begun_by team t me last promised quarantined
+    → IfSome {T = Ballot × Why} o (λ b. promised < b.0.number)
+begun_above team t me last promised quarantined o e = rw e (go (begins_slot team me last promised quarantined false t) refl)
+  where
+    go : (b : Bool) → begins_slot team me last promised quarantined false t ≡ b → IfSome {T = Ballot × Why} (cond b (Some (begun (own_promise team me last t), why_begun team last t)) None) (λ b. promised < b.0.number)
+    go true begins = grind (arith, nat_tests)
+    go false begins = tt
 
 -- a ballot that is begun has its owner's report alone
 pub begun_own : (team : Team) (t : ℕ) (me : Report) (last : Option Decision) (number : ℕ) (quarantined : Bool) (who : ℕ) (o : Option (Ballot × Why)) → o ≡ begun_by team t me last number quarantined → me.member.who ≡ who

@@ -1,10 +1,6 @@
 -- Drafts, with what is appended to the last decision.
 use Rattle.std.proofs.Common.{◌≡◌, refl, sym, ap, subst, ◌∙◌, ℕ, ◌+◌, Bool, true, false, List, [], ◌∷◌, ◌++◌, append-nil, map, arith}
-use Rattle.tw_types.specs.declared.team.Team.{Team}
-use Rattle.tw_types.specs.declared.message.Entry.{Entry}
-use Rattle.tw_types.specs.declared.message.Kept.{Kept}
-use Rattle.tw_types.specs.declared.message.Seat.{Seat}
-use Rattle.tw_types.specs.declared.message.Decision.{Decision}
+use Rattle.tw_machine.specs.Types.{Team, Entry, Kept, Seat, Decision}
 use Rattle.tw_types.specs.Turns.{next_draft}
 use Rattle.tw_types.specs.Appending.{IsNextEntry, EachIsNext, MayBeAppended, IsAppended, appended_list, with_appended, raised}
 use Rattle.node_core.specs.Outcomes.{IsDraft}

@@ -1,10 +1,7 @@
 -- What a process keeps once a decision is taken or held.
 use Rattle.std.proofs.Common.{◌≡◌, refl, ap, ◌∙◌, ℕ, ◌≤◌, Bool, cond, Option, Some, None, IfSome, arith}
 use Rattle.tw_num.specs.declared.moment.Moment.{Moment}
-use Rattle.tw_types.specs.declared.message.UpdateId.{UpdateId}
-use Rattle.tw_types.specs.declared.message.Report.{Report}
-use Rattle.tw_types.specs.declared.message.Decision.{Decision}
-use Rattle.tw_types.specs.declared.ballot.Ballot.{Ballot}
+use Rattle.tw_machine.specs.Types.{UpdateId, Report, Decision, Ballot}
 use Rattle.tw_types.specs.Waiting.{Waiting, first_hole, released}
 use Rattle.tw_types.specs.Process.{Process, Hold, ToGroup}
 use Rattle.tw_machine.specs.Run.{Run}

@@ -1,12 +1,7 @@
 -- Deliveries that are done one after the other, by what a process keeps.
 use Rattle.std.proofs.Common.{◌≡◌, refl, sym, subst, ◌∙◌, ap, ℕ, suc, ◌+◌, ◌<◌, ◌≤◌, max, true, cond, List, [], ◌∷◌, ◌++◌, append-nil, map, length, filter, Option, Some, None, arith}
 use Rattle.std.proofs.lemmas.List.{append_assoc, length-append, length-map}
-use Rattle.tw_types.specs.declared.team.Team.{Team}
-use Rattle.tw_types.specs.declared.message.Kept.{Kept}
-use Rattle.tw_types.specs.declared.message.Decision.{Decision}
-use Rattle.tw_types.specs.declared.outputs.How.{How}
-use Rattle.tw_types.specs.declared.outputs.Pass.{Pass}
-use Rattle.tw_types.specs.declared.outputs.Outputs.{Outputs}
+use Rattle.tw_machine.specs.Types.{Team, Kept, Decision, How, Pass, Outputs}
 use Rattle.tw_types.specs.Beliefs.{Log, Belief, Informed, Blank, last_of}
 use Rattle.tw_types.specs.Decisions.{or_none}
 use Rattle.tw_types.specs.Flag.{is_up}

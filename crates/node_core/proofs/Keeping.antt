@@ -4,17 +4,13 @@ use Rattle.std.specs.Prelude.{not, nat_lt, nat_le, ◌||◌, ◌&&◌}
 use Rattle.std.specs.List.{AllByRecursion, list_any, cons_option}
 use Rattle.std.specs.Option.{option_map, option_map_or}
 use Rattle.std.proofs.lemmas.Bool.Decides.{nat_tests}
-use Rattle.tw_types.specs.declared.message.Entry.{Entry}
-use Rattle.tw_types.specs.declared.message.Kept.{Kept}
-use Rattle.tw_types.specs.declared.message.Member.{Member}
-use Rattle.tw_types.specs.declared.message.Seat.{Seat}
-use Rattle.tw_types.specs.declared.message.Decision.{Decision}
+use Rattle.tw_machine.specs.Types.{Entry, Kept, Member, Seat, Decision}
 use Rattle.tw_types.specs.Ranges.{EntryFits, SeatFits, UpdateFits, DecisionFits, Ascends}
 use Rattle.tw_types.specs.Decisions.{or_none, is_same_member, is_seat_of}
 use Rattle.tw_types.specs.Updates.{find_update, has_update, is_named, is_awaited, sender, pending_room, seat_of_sender, stays_pending, waits_before}
 use Rattle.tw_types.specs.Waiting.{Held, Waiting, is_hole, entries_from, payloads_of, Putting, Filled, Stored, Known, Stranger, OutOfRange, put_at_seat, put_by_seat, putting, known_if_own, putting_received, with_payload, put_as, after_put, MayPut, holding, released, settled_by}
 use Rattle.tw_types.specs.Logs.{entry_joined}
-use Rattle.tw_machine.proofs.Tables.{all_joined}
+use Rattle.tw_types.proofs.Lists.{all_joined}
 use Rattle.oal.specs.Recent.{Recent, recent_after}
 use Rattle.update_store.specs.Stock.{Stock}
 use Rattle.tw_types.specs.Beliefs.{view_decision}

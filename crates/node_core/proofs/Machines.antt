@@ -2,9 +2,7 @@
 use Rattle.std.proofs.Common.{◌≡◌, ap, sym, ◌∙◌, ℕ, ◌≤◌, List, ◌++◌, map}
 use Rattle.app_table.specs.Machine.{content_after}
 use Rattle.app_table.proofs.Contents.{some_more}
-use Rattle.tw_types.specs.declared.team.Team.{Team}
-use Rattle.tw_types.specs.declared.outputs.Outputs.{Outputs}
-use Rattle.tw_types.specs.declared.outputs.Pass.{Pass}
+use Rattle.tw_machine.specs.Types.{Team, Outputs, Pass}
 use Rattle.tw_types.specs.Beliefs.{log_length}
 use Rattle.tw_types.specs.Process.{Process}
 use Rattle.tw_machine.specs.Applied.{payloads_in, payloads_applied}

@@ -5,12 +5,7 @@ use Rattle.std.specs.List.{AllByRecursion, list_all, cons_option}
 use Rattle.std.proofs.lemmas.Bool.Decides.{nat_tests}
 use Rattle.std.proofs.lemmas.List.{length-append}
 use Rattle.std.proofs.Math.Seq.{drop-append_seam}
-use Rattle.tw_types.specs.declared.team.Team.{Team}
-use Rattle.tw_types.specs.declared.message.Entry.{Entry}
-use Rattle.tw_types.specs.declared.message.Kept.{Kept}
-use Rattle.tw_types.specs.declared.message.Support.{Support}
-use Rattle.tw_types.specs.declared.message.Seat.{Seat}
-use Rattle.tw_types.specs.declared.message.Decision.{Decision}
+use Rattle.tw_machine.specs.Types.{Team, Entry, Kept, Support, Seat, Decision}
 use Rattle.tw_types.specs.Refusals.{first_refusal}
 use Rattle.tw_types.specs.Ranges.{Ascends, DecisionFits}
 use Rattle.tw_types.specs.Decisions.{decision_length}

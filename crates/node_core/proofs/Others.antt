@@ -5,9 +5,7 @@ use Rattle.std.specs.List.{filter, range_with_len}
 use Rattle.std.proofs.lemmas.Bool.Decides.{nat_tests}
 use Rattle.std.proofs.lemmas.List.{map-append}
 use Rattle.std.proofs.lemmas.List.Elements.{filter-append}
-use Rattle.tw_types.specs.declared.team.Team.{Team}
-use Rattle.tw_types.specs.declared.datagram.Datagram.{Datagram}
-use Rattle.tw_types.specs.declared.outputs.Outputs.{Outputs}
+use Rattle.tw_machine.specs.Types.{Team, Datagram, Outputs}
 use Rattle.tw_machine.specs.Run.{Run, with_sends}
 use Rattle.node_core.specs.declared.state.State.{State}
 use Rattle.node_core.specs.StandsFor.{RunStandsFor}

@@ -1,13 +1,10 @@
 -- An event, by its parts.
 use Rattle.std.proofs.Common.{◌≡◌, refl, Option, Result, ap, sym, subst, ◌∙◌, ℕ, Bool, cond}
 use Rattle.std.specs.Option.{option_map}
-use Rattle.tw_types.specs.declared.team.Team.{Team}
-use Rattle.tw_types.specs.declared.outputs.Outputs.{Outputs}
+use Rattle.tw_machine.specs.Types.{Team, Outputs, Datagram, Reason}
 use Rattle.tw_types.specs.Outputs.{nothing}
 use Rattle.tw_types.specs.Process.{Process}
 use Rattle.tw_num.specs.declared.moment.Moment.{Moment}
-use Rattle.tw_types.specs.declared.datagram.Datagram.{Datagram}
-use Rattle.tw_types.specs.declared.answer.Reason.{Reason}
 use Rattle.tw_machine.specs.Event.{Event}
 use Rattle.tw_machine.specs.Run.{Run}
 use Rattle.tw_machine.specs.Rules.{rule}

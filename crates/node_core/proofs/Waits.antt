@@ -3,18 +3,14 @@ use Rattle.std.proofs.Common.{sym, subst, ℕ, ◌-◌, ◌<◌, List, [], ◌�
 use Rattle.std.specs.Prelude.{not}
 use Rattle.std.specs.List.{AllByRecursion}
 use Rattle.std.specs.Option.{option_map}
-use Rattle.tw_types.specs.declared.message.UpdateId.{UpdateId}
-use Rattle.tw_types.specs.declared.message.Entry.{Entry}
-use Rattle.tw_types.specs.declared.message.Seat.{Seat}
-use Rattle.tw_types.specs.declared.message.Report.{Report}
-use Rattle.tw_types.specs.declared.message.Decision.{Decision}
-use Rattle.tw_types.specs.declared.ballot.Ballot.{Ballot}
+use Rattle.tw_machine.specs.Types.{UpdateId, Entry, Seat, Report, Decision, Ballot}
 use Rattle.tw_types.specs.Ranges.{IdFits, EntryFits, SeatFits, ReportFits, DecisionFits, IsMadeBy}
 use Rattle.tw_types.specs.BallotFits.{IsBallot}
 use Rattle.tw_types.specs.Ballots.{reports_it}
 use Rattle.tw_types.specs.Updates.{find_update, has_update, is_named, stays_pending}
 use Rattle.tw_types.specs.Waiting.{Held, Waiting, holes, first_hole, ids_from, entries_from, held_payloads, payloads_of, each_once, holding, released, settled_by}
-use Rattle.tw_machine.proofs.Tables.{all_joined, all_mapped}
+use Rattle.tw_machine.proofs.Tables.{all_mapped}
+use Rattle.tw_types.proofs.Lists.{all_joined}
 use Rattle.node_core.specs.InRange.{KeptFits, HeldFits, WaitingFits}
 use Rattle.node_core.proofs.Listing.{all_dropped, all_filtered, all_weaker, found_one, all_gathered, first_one, least_below}
 

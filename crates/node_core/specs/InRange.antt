@@ -1,10 +1,7 @@
 -- What a process keeps is in the ranges of datagrams, so that whatever it says of it may be sent.
 use Rattle.std.specs.Prelude.{ℕ, ◌≡◌, ◌≤◌, ◌<◌, true, length, Option, IfSome}
 use Rattle.std.specs.List.{AllByRecursion}
-use Rattle.tw_types.specs.declared.message.Report.{Report}
-use Rattle.tw_types.specs.declared.message.Kept.{Kept}
-use Rattle.tw_types.specs.declared.message.Decision.{Decision}
-use Rattle.tw_types.specs.declared.ballot.Ballot.{Ballot}
+use Rattle.tw_machine.specs.Types.{Report, Kept, Decision, Ballot}
 use Rattle.tw_types.specs.Bytes.{IsCount}
 use Rattle.tw_types.specs.Beliefs.{Log, last_of, view_decision}
 use Rattle.tw_types.specs.Ballots.{has_report_of}

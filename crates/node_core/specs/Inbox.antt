@@ -1,7 +1,6 @@
 -- What stands in a core's inbox: a datagram that was read there, where one was taken.
 use Rattle.std.specs.Prelude.{Bool, true, false, Option, Some, None, Result, Ok, Err}
-use Rattle.tw_types.specs.declared.datagram.Datagram.{Datagram}
-use Rattle.tw_types.specs.declared.answer.Reason.{Reason}
+use Rattle.tw_machine.specs.Types.{Datagram, Reason}
 
 -- the datagram of the inbox, where it is taken, or why it isn't
 abbrev pub taken_in : Result (Unit {0}) Reason → Datagram → Result Datagram Reason

@@ -2,16 +2,7 @@
 use Rattle.std.specs.Prelude.{ℕ, ◌≡◌, ◌==◌, ◌+◌, nat_le, ◌&&◌, Bool, false, if◌then◌else◌, List, [], Option, Some, None, Result, Ok, Err}
 use Rattle.std.specs.Option.{option_map}
 use Rattle.tw_num.specs.declared.moment.Moment.{Moment}
-use Rattle.tw_types.specs.declared.team.Team.{Team}
-use Rattle.tw_types.specs.declared.message.UpdateId.{UpdateId}
-use Rattle.tw_types.specs.declared.message.Entry.{Entry}
-use Rattle.tw_types.specs.declared.message.Kept.{Kept}
-use Rattle.tw_types.specs.declared.message.Decision.{Decision}
-use Rattle.tw_types.specs.declared.ballot.Ballot.{Ballot}
-use Rattle.tw_types.specs.declared.datagram.Why.{Why}
-use Rattle.tw_types.specs.declared.answer.Reason.{Reason}
-use Rattle.tw_types.specs.declared.answer.ProposeFault.{ProposeFault}
-use Rattle.tw_types.specs.declared.row.RowAnswer.{RowAnswer}
+use Rattle.tw_machine.specs.Types.{Team, UpdateId, Entry, Kept, Decision, Ballot, Why, Reason, ProposeFault, RowAnswer}
 use Rattle.tw_types.specs.Beliefs.{last_of}
 use Rattle.tw_types.specs.Votes.{Promise}
 use Rattle.tw_types.specs.Appending.{MayBeAppended, appended_list, with_appended}

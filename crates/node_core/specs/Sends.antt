@@ -1,10 +1,7 @@
 -- What may be handed to the wire.
 use Rattle.std.specs.Prelude.{ℕ, ◌+◌, ◌<◌, ◌≤◌, ◌≡◌, length}
 use Rattle.std.specs.List.{AllByRecursion}
-use Rattle.tw_types.specs.declared.datagram.Head.{Head}
-use Rattle.tw_types.specs.declared.datagram.Body.{Body}
-use Rattle.tw_types.specs.declared.datagram.Datagram.{Datagram}
-use Rattle.tw_types.specs.declared.outputs.Outputs.{Outputs}
+use Rattle.tw_machine.specs.Types.{Head, Body, Datagram, Outputs}
 use Rattle.tw_types.specs.Ranges.{BodyFits, DatagramFits}
 use Rattle.node_core.specs.declared.state.Identity.{Identity}
 

@@ -2,11 +2,10 @@
 use Rattle.std.specs.Prelude.{◌≡◌, ℕ, ◌<◌, get_or, None}
 use Rattle.std.specs.Option.{option_map}
 use Rattle.tw_num.specs.Clock.{fresh}
-use Rattle.tw_types.specs.declared.team.Team.{Team}
+use Rattle.tw_machine.specs.Types.{Team, Outputs}
 use Rattle.tw_types.specs.Votes.{Vote}
 use Rattle.tw_types.specs.Beliefs.{Belief, Informed, Blank}
 use Rattle.tw_types.specs.Process.{Identity, Timing, Beat, Purpose, ToTake, ToGroup, Hold, Process}
-use Rattle.tw_types.specs.declared.outputs.Outputs.{Outputs}
 use Rattle.tw_machine.specs.Run.{Run}
 use Rattle.clock_sync.specs.StandsFor as clock
 use Rattle.oal.specs.StandsFor as list

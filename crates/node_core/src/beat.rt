@@ -5,7 +5,7 @@ use tw_num::Moment;
 use tw_types::{Body, Decision, Outputs};
 
 /// When a process last gave a sign of life, by its own clock.
-#[derive(Clone, Copy, Debug)]
+#[derive(Clone, Copy)]
 pub struct Beat {
     pub last: Option<u64>,
 }

@@ -8,10 +8,7 @@ use tw_types::{Body, Decision, Outputs};
 
 impl State {
     ghost use Rattle.std.specs.Prelude.{◌≡◌, ◌<◌, ◌≤◌, ◌+◌, ◌^◌, length, true, false, Option, Some, None, List};
-    ghost use Rattle.tw_types.specs.declared.team.Team.{Team as TeamSeen};
-    ghost use Rattle.tw_types.specs.declared.message.Report.{Report};
-    ghost use Rattle.tw_types.specs.declared.message.Kept.{Kept};
-    ghost use Rattle.tw_types.specs.declared.message.Decision.{Decision as DecisionSeen};
+    ghost use Rattle.tw_machine.specs.Types.{Team as TeamSeen, Report, Kept, Decision as DecisionSeen};
     ghost use Rattle.tw_types.specs.Beliefs.{last_of};
     ghost use Rattle.tw_types.specs.Flag.{is_up};
     ghost use Rattle.tw_types.specs.Logs.{fit_tests_at};

@@ -110,8 +110,7 @@ fn deliver_weaks(store: &mut Store, out: &mut Earlies)
 
 impl State {
     ghost use Rattle.std.specs.Prelude.{◌≡◌, [], Some};
-    ghost use Rattle.tw_types.specs.declared.team.Team.{Team as TeamSeen};
-    ghost use Rattle.tw_types.specs.declared.message.Decision.{Decision as DecisionSeen};
+    ghost use Rattle.tw_machine.specs.Types.{Team as TeamSeen, Decision as DecisionSeen};
     ghost use Rattle.tw_types.specs.Beliefs.{last_of};
     ghost use Rattle.tw_machine.specs.Run.{Run};
     ghost use Rattle.tw_machine.specs.Delivering.{all_delivered, deliver};

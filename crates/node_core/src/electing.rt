@@ -38,8 +38,7 @@ fn is_over(team: &Team, promised: u64, last: Option<&Decision>, t: u64, ballot: 
 
 impl State {
     ghost use Rattle.std.specs.Prelude.{◌≡◌, ◌<◌, ◌≤◌, ◌+◌, ◌^◌, true, length, Some, IfNone, IfSome, MatchOption};
-    ghost use Rattle.tw_types.specs.declared.team.Team.{Team as TeamSeen};
-    ghost use Rattle.tw_types.specs.declared.outputs.Outputs.{Outputs as OutputsSeen};
+    ghost use Rattle.tw_machine.specs.Types.{Team as TeamSeen, Outputs as OutputsSeen};
     ghost use Rattle.tw_types.specs.BallotFits.{IsBallot};
     ghost use Rattle.tw_types.specs.Ballots.{has_report_of};
     ghost use Rattle.tw_types.specs.Process.{Process};

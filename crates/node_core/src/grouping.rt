@@ -10,10 +10,8 @@ use tw_types::{Ballot, Decision, Outputs, Reason, Report, UpdateId};
 impl State {
     ghost use Rattle.std.specs.Prelude.{◌≡◌, ◌<◌, ◌≤◌, ◌+◌, ◌^◌, length, true, Some, None, IfSome, IfOk, IfErr};
     ghost use Rattle.std.specs.Option.{option_copied, option_and_then};
-    ghost use Rattle.tw_types.specs.declared.team.Team.{Team as TeamSeen};
-    ghost use Rattle.tw_types.specs.declared.outputs.Outputs.{Outputs as OutputsSeen};
+    ghost use Rattle.tw_machine.specs.Types.{Team as TeamSeen, Outputs as OutputsSeen, Ballot as BallotSeen};
     ghost use Rattle.tw_types.specs.BallotFits.{IsPromise, IsBallot};
-    ghost use Rattle.tw_types.specs.declared.ballot.Ballot.{Ballot as BallotSeen};
     ghost use Rattle.tw_types.specs.Logs.{fit_tests_at};
     ghost use Rattle.tw_types.specs.Process.{Process};
     ghost use Rattle.tw_types.specs.Ranges.{IdFits, DecisionFits};

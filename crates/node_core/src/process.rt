@@ -15,7 +15,7 @@ use tw_types::{Answer, Atom, Datagram, Mode, Order, Outputs, ProposeFault, Reaso
 use wire_body::blank;
 
 /// What happens to a process.
-#[derive(Clone, Copy, Debug)]
+#[derive(Clone, Copy)]
 pub enum Event<'a> {
     /// Time passed.
     Tick,
@@ -27,7 +27,7 @@ pub enum Event<'a> {
 
 /// A process of a team, with the machine that it applies updates to. It takes no memory once it is made. Contracts see it as what
 /// it keeps, which is always in range, with its machine's content, and nothing of its inbox.
-#[derive(Debug, Drop)]
+#[derive(Drop)]
 pub struct Core<A> {
     state: State,
     /// Where a packet is read. What an earlier one left there says nothing.

@@ -13,7 +13,7 @@ use tw_types::{Ballot, Decision, Kind, Member, Mode, Report, Team};
 use update_store::Store;
 
 /// Who a process is.
-#[derive(Clone, Copy, Debug, PartialEq, Eq)]
+#[derive(Clone, Copy)]
 pub struct Identity {
     /// Its number in the team.
     pub who: u8,
@@ -25,7 +25,7 @@ pub struct Identity {
 }
 
 /// What a process promised and supported last.
-#[derive(Clone, Copy, Debug)]
+#[derive(Clone, Copy)]
 pub struct Vote {
     /// The number of the group that it promised, 0 at first, below 2^60.
     pub promised: u64,
@@ -34,7 +34,7 @@ pub struct Vote {
 }
 
 /// What a process believes of its group.
-#[derive(Debug, Drop)]
+#[derive(Drop)]
 pub enum Belief {
     /// It has the list of updates, whole, and took this decision last.
     Informed(Option<Decision>),
@@ -82,7 +82,7 @@ impl Belief {
 }
 
 /// What a held decision is for.
-#[derive(Clone, Copy, Debug, PartialEq, Eq)]
+#[derive(Clone, Copy, PartialEq, Eq)]
 pub enum Purpose {
     /// It is to be taken.
     ToTake,
@@ -91,7 +91,7 @@ pub enum Purpose {
 }
 
 /// For what a decision is held.
-#[derive(Clone, Copy, Debug)]
+#[derive(Clone, Copy)]
 pub struct Hold {
     pub purpose: Purpose,
     /// The number of the group that the process had promised when it was held.
@@ -99,7 +99,7 @@ pub struct Hold {
 }
 
 /// All that a process keeps.
-#[derive(Debug, Drop)]
+#[derive(Drop)]
 pub struct State {
     pub team: Team,
     pub identity: Identity,

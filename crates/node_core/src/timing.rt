@@ -14,7 +14,7 @@ use tw_num::{Disjoint, Interval, Moment};
 use tw_types::{Echo, Head, Reason, Team};
 
 /// What a process knows of time: its clock, and of each process the greatest stamp that it heard, with its own reading then.
-#[derive(Clone, Copy, Debug)]
+#[derive(Clone, Copy)]
 pub struct Timing {
     clock: TeamClock,
     heard: [Option<Echo>; 15],

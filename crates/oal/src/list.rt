@@ -33,7 +33,7 @@ pub enum ExtendFault {
 /// isn't passed.
 ///
 /// Positions count the entries from 0 on, also those that are no longer kept.
-#[derive(Debug, Drop)]
+#[derive(Drop)]
 pub struct Oal {
     kept: Listed<Kept, 64>,
     end: u64,

@@ -7,8 +7,7 @@ use Rattle.std.specs.List.{list_all}
 use Rattle.tw_io.specs.Faults.{IsRisen}
 use Rattle.tw_types.specs.declared.team.TeamFault.TheVariants.{Size}
 use Rattle.tw_types.specs.Examples.{team_a}
-use Rattle.tw_types.specs.declared.step.Act.{Act}
-use Rattle.tw_types.specs.declared.step.Step.{Step}
+use Rattle.tw_machine.specs.Types.{Act, Step}
 use Rattle.tw_types.specs.declared.step.Act.TheVariants.{First, Crash, Reference, Look}
 use Rattle.tw_types.specs.declared.step.Cause.TheVariants.{Time}
 use Rattle.schedule_text.specs.declared.status.Status.TheVariants as status

@@ -2,12 +2,10 @@
 use Rattle.std.proofs.Common.{subst, ◌≡◌, inl, inr, ◌≤◌, ◌<◌, refl, sym, ap, ◌∙◌, ℕ, ◌+◌, List, [], ◌∷◌, ◌++◌, length, None, arith}
 use Rattle.std.proofs.lemmas.List.{append-nil}
 use Rattle.std.proofs.lemmas.List.Concat.{flat_map-append}
-use Rattle.tw_types.specs.declared.team.Team.{Team}
+use Rattle.tw_machine.specs.Types.{Team, Cause, Step}
 use Rattle.tw_types.specs.Team.{fault_of}
-use Rattle.tw_types.specs.declared.step.Cause.{Cause}
 use Rattle.schedule_text.specs.declared.status.Status.TheVariants as status
 use Rattle.world.specs.declared.world.World as code
-use Rattle.tw_types.specs.declared.step.Step.{Step}
 use Rattle.tw_machine.specs.Grammar.{IsTeamLine, line_limit}
 use Rattle.tw_machine.specs.Rows.{rows_of, row_of}
 use Rattle.tw_types.specs.Row.{Row}

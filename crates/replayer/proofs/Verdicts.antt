@@ -1,14 +1,11 @@
 -- A text is one thing only, so a status tells all that it says of the text, and nothing else tells it.
 use Rattle.std.proofs.Common.{◌≡◌, inl, inr, ◌↔◌, ℕ, ◌+◌, ◌<◌, ◌≤◌, ◌^◌, refl, sym, ap, ◌∙◌, subst, List, [], ◌∷◌, length, Option, Some, None, arith}
 use Rattle.std.proofs.lemmas.Bool.{cases_lt}
-use Rattle.tw_types.specs.declared.team.Team.{Team}
-use Rattle.tw_types.specs.declared.team.TeamFault.{TeamFault}
+use Rattle.tw_machine.specs.Types.{Team, TeamFault, Cause, Step}
 use Rattle.tw_types.specs.Team.{fault_of}
-use Rattle.tw_types.specs.declared.step.Cause.{Cause}
 use Rattle.tw_types.specs.declared.step.Cause.TheVariants.{Grammar}
 use Rattle.schedule_text.specs.declared.status.Status.{Status}
 use Rattle.schedule_text.specs.declared.status.Status.TheVariants as status
-use Rattle.tw_types.specs.declared.step.Step.{Step}
 use Rattle.tw_machine.specs.Grammar.{IsTeamLine, IsStepLine}
 use Rattle.tw_machine.specs.Admissible.{cause_of}
 use Rattle.tw_machine.specs.World.{world, Admissible}

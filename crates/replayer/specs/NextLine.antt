@@ -1,8 +1,6 @@
 -- What the next line of a schedule comes to.
 use Rattle.std.specs.Prelude.{ℕ, ◌≡◌, List, ◌∷◌, Option, Some, None}
-use Rattle.tw_types.specs.declared.team.Team.{Team}
-use Rattle.tw_types.specs.declared.step.Step.{Step}
-use Rattle.tw_types.specs.declared.step.Cause.{Cause}
+use Rattle.tw_machine.specs.Types.{Team, Step, Cause}
 use Rattle.tw_types.specs.Row.{Row}
 use Rattle.tw_machine.specs.Grammar.{IsStepLine}
 use Rattle.tw_machine.specs.Admissible.{cause_of}

@@ -1,14 +1,11 @@
 -- What a text is as a schedule: whole and good, or where and why it stops being so.
 use Rattle.std.specs.Prelude.{ℕ, ◌+◌, ◌<◌, ◌≤◌, ◌≡◌, ◌⊎◌, ◌==◌, if◌then◌else◌, List, [], ◌∷◌, length, Some, None}
 use Rattle.std.specs.List.{onto_first}
-use Rattle.tw_types.specs.declared.team.Team.{Team}
-use Rattle.tw_types.specs.declared.team.TeamFault.{TeamFault}
+use Rattle.tw_machine.specs.Types.{Team, TeamFault, Cause, Step}
 use Rattle.tw_types.specs.Team.{fault_of}
-use Rattle.tw_types.specs.declared.step.Cause.{Cause}
 use Rattle.tw_types.specs.declared.step.Cause.TheVariants.{Grammar}
 use Rattle.schedule_text.specs.declared.status.Status.{Status}
 use Rattle.schedule_text.specs.declared.status.Status.TheVariants as status
-use Rattle.tw_types.specs.declared.step.Step.{Step}
 use Rattle.tw_machine.specs.Grammar.{IsTeamLine, IsStepLine}
 use Rattle.tw_machine.specs.Admissible.{cause_of}
 use Rattle.tw_machine.specs.World.{world, Admissible}

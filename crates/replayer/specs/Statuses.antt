@@ -1,11 +1,8 @@
 -- What each status tells of a text, given by its lines.
 use Rattle.std.specs.Prelude.{ℕ, ◌≡◌, ◌⊎◌, List}
-use Rattle.tw_types.specs.declared.team.Team.{Team}
-use Rattle.tw_types.specs.declared.team.TeamFault.{TeamFault}
-use Rattle.tw_types.specs.declared.step.Cause.{Cause}
+use Rattle.tw_machine.specs.Types.{Team, TeamFault, Cause, Step}
 use Rattle.schedule_text.specs.declared.status.Status.{Status}
 use Rattle.schedule_text.specs.declared.status.Status.TheVariants as status
-use Rattle.tw_types.specs.declared.step.Step.{Step}
 use Rattle.replayer.specs.Replay.{Whole, NoTeam, Faulty, BadLine, Endless, IsVerdict}
 
 -- The text is a whole schedule: the line of a team without a fault, then the lines of at most 100,000 steps, each of which

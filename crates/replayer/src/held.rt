@@ -4,7 +4,7 @@ use std::alloc::Global;
 use tw_io::{Sink, WriteFailed};
 
 /// What was written so far, in memory that grows. A write that finds no memory fails.
-#[derive(Debug, Drop)]
+#[derive(Drop)]
 pub struct Held {
     bytes: Vec<u8>,
     faults: u64,

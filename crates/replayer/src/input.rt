@@ -14,7 +14,7 @@ const LINES: u32 = 100_001;
 const LINE: usize = 9_000;
 
 /// How far a text was read: whole lines, and bytes of the line after them.
-#[derive(Clone, Copy, Debug)]
+#[derive(Clone, Copy)]
 pub struct Extent {
     pub lines: u32,
     pub line: usize,

@@ -3,9 +3,8 @@
 
 ghost use Rattle.std.specs.Prelude.{◌≡◌, ℕ, ◌≤◌, ◌<◌, ◌^◌, ◌+◌, ◌-◌, ◌++◌, [], ◌∷◌, List, None, IfOk, IfErr, OnOk, Some};
 ghost use Rattle.tw_types.specs.Team.{IsSound, fault_of};
-ghost use Rattle.tw_types.specs.declared.team.Team.{Team as TeamSeen};
+ghost use Rattle.tw_machine.specs.Types.{Team as TeamSeen, Step as StepSeen};
 ghost use Rattle.tw_machine.specs.Grammar.{IsTeamLine};
-ghost use Rattle.tw_types.specs.declared.step.Step.{Step as StepSeen};
 ghost use Rattle.tw_machine.specs.RowText.{row_text};
 ghost use Rattle.replayer.specs.Held.{written};
 ghost use Rattle.replayer.specs.Replay.{lines_of};
@@ -34,7 +33,7 @@ pub struct Replay {
 }
 
 /// Why the steps end at a line.
-#[derive(Clone, Copy, Debug, PartialEq, Eq)]
+#[derive(Clone, Copy)]
 enum Refusal {
     /// It can't be the next line.
     Cause(Cause),

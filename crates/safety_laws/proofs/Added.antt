@@ -1,9 +1,7 @@
 -- What a maker adds to the list: the entries have their payloads, and are those of pending updates.
 use Rattle.std.proofs.Common.{◌≡◌, refl, ℕ, Bool, true, false, cond, [], map, Some}
 use Rattle.std.specs.List.{AllByRecursion}
-use Rattle.tw_types.specs.declared.team.Team.{Team}
-use Rattle.tw_types.specs.declared.message.Kept.{Kept}
-use Rattle.tw_types.specs.declared.message.Decision.{Decision}
+use Rattle.tw_machine.specs.Types.{Team, Kept, Decision}
 use Rattle.tw_types.specs.Appending.{appended_list, appended_kept}
 use Rattle.tw_types.specs.Flag.{is_up}
 use Rattle.tw_types.specs.Process.{Process}

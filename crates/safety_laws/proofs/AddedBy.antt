@@ -3,12 +3,7 @@ use Rattle.std.proofs.Common.{◌≡◌, refl, sym, subst, ℕ, Bool, true, fals
 use Rattle.std.specs.Prelude.{not}
 use Rattle.std.specs.List.{AllByRecursion, list_all}
 use Rattle.std.proofs.lemmas.Bool.{and_parts}
-use Rattle.tw_types.specs.declared.team.Team.{Team}
-use Rattle.tw_types.specs.declared.message.Decision.{Decision}
-use Rattle.tw_types.specs.declared.message.Entry.{Entry}
-use Rattle.tw_types.specs.declared.message.Kept.{Kept}
-use Rattle.tw_types.specs.declared.message.Seat.{Seat}
-use Rattle.tw_types.specs.declared.step.Step.{Step}
+use Rattle.tw_machine.specs.Types.{Team, Decision, Entry, Kept, Seat, Step}
 use Rattle.tw_types.specs.Appending.{count_of, is_candidate, is_ripe, may_come, goes_before, added_entry, comes_next, come_in_turn, added_kept, appended_kept}
 use Rattle.tw_types.specs.Decisions.{or_none, is_seat_of, has_seat}
 use Rattle.tw_types.specs.Flag.{is_up}

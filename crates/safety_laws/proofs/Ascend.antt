@@ -1,8 +1,6 @@
 -- Promises ascend, over all lives of their process.
 use Rattle.std.proofs.Common.{◌≡◌, refl, ap, subst, ◌∙◌, ℕ, ◌+◌, ◌*◌, ◌-◌, ◌≤◌, true, false, List, ◌∷◌, arith}
-use Rattle.tw_types.specs.declared.team.Team.{Team}
-use Rattle.tw_types.specs.declared.message.Report.{Report}
-use Rattle.tw_types.specs.declared.step.Step.{Step}
+use Rattle.tw_machine.specs.Types.{Team, Report, Step}
 use Rattle.tw_types.specs.Promises.{is_again, is_quarantined, is_in_window}
 use Rattle.tw_machine.specs.ClockLaw.{IsNear}
 use Rattle.tw_machine.specs.History.{Promised, life, promise_item}

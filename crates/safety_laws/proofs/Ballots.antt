@@ -2,8 +2,7 @@
 use Rattle.std.proofs.Common.{◌≡◌, refl, ap, subst, ◌∙◌, inl, inr, ℕ, ◌≤◌, ◌<◌, Bool, true, false, cond, ◌||◌, nat_eq, List, [], ◌∷◌, ◌++◌, Option, Some, None, arith}
 use Rattle.std.specs.List.{AllByRecursion, IsDistinct, list_any}
 use Rattle.std.proofs.lemmas.Bool.Decides.{nat_tests}
-use Rattle.tw_types.specs.declared.message.Decision.{Decision}
-use Rattle.tw_types.specs.declared.message.Report.{Report}
+use Rattle.tw_machine.specs.Types.{Decision, Report}
 use Rattle.tw_types.specs.Ballots.{greater}
 use Rattle.tw_types.specs.Decisions.{or_none, is_older}
 use Rattle.tw_types.specs.Ranges.{Distinct}

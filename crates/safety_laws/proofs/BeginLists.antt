@@ -1,13 +1,8 @@
 -- What is known of a list, and where it is the beginning of another one; and what a process's list is after a decision is entered.
 use Rattle.std.proofs.Common.{◌≡◌, refl, sym, ap, subst, ◌∙◌, inl, inr, ◌⊎◌, ℕ, zero, suc, ◌≤◌, ◌<◌, nat_eq, nat_lt, nat_le, Bool, true, false, ◌&&◌, ◌||◌, List, [], ◌∷◌, take, Option, Some, None, arith}
 use Rattle.std.proofs.lemmas.Bool.Decides.{nat_tests}
-use Rattle.tw_types.specs.declared.team.Team.{Team}
-use Rattle.tw_types.specs.declared.message.Decision.{Decision}
-use Rattle.tw_types.specs.declared.message.Kept.{Kept}
-use Rattle.tw_types.specs.declared.message.Kind.{Kind}
+use Rattle.tw_machine.specs.Types.{Team, Decision, Kept, Kind, Member, Report}
 use Rattle.tw_types.specs.declared.message.Kind.TheVariants as kinds
-use Rattle.tw_types.specs.declared.message.Member.{Member}
-use Rattle.tw_types.specs.declared.message.Report.{Report}
 use Rattle.tw_types.specs.Beliefs.{view_decision, log_length}
 use Rattle.tw_types.specs.Decisions.{or_none, has_seat, decision_length}
 use Rattle.tw_types.specs.Items.{In}

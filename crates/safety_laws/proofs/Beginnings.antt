@@ -2,15 +2,8 @@
 use Rattle.std.proofs.Common.{◌≡◌, ◌≢◌, refl, sym, ap, subst, ◌∙◌, inl, inr, ◌⊎◌, ℕ, zero, suc, ◌≤◌, ◌<◌, true, false, not, List, [], ◌∷◌, ◌++◌, length, take, drop, Option, Some, None, Ok, arith}
 use Rattle.std.specs.List.{AllByRecursion}
 use Rattle.std.proofs.Math.Seq.{drop-append_seam}
-use Rattle.tw_types.specs.declared.team.Team.{Team}
-use Rattle.tw_types.specs.declared.ballot.Ballot.{Ballot}
-use Rattle.tw_types.specs.declared.message.Decision.{Decision}
-use Rattle.tw_types.specs.declared.message.Entry.{Entry}
-use Rattle.tw_types.specs.declared.message.Kept.{Kept}
-use Rattle.tw_types.specs.declared.message.Report.{Report}
-use Rattle.tw_types.specs.declared.outputs.Mode.{Mode}
+use Rattle.tw_machine.specs.Types.{Team, Ballot, Decision, Entry, Kept, Report, Mode, Step}
 use Rattle.tw_types.specs.declared.outputs.Mode.TheVariants as modes
-use Rattle.tw_types.specs.declared.step.Step.{Step}
 use Rattle.tw_types.specs.Beliefs.{Belief, Informed, Blank, is_informed, view_decision, last_of, log_length}
 use Rattle.tw_types.specs.Decisions.{or_none, decision_length}
 use Rattle.tw_types.specs.Groups.{group_made, group_making}
@@ -25,7 +18,7 @@ use Rattle.tw_machine.specs.History as items
 use Rattle.tw_machine.specs.History.{Promised, list_of}
 use Rattle.tw_machine.specs.Standing.{member_of, last_decision}
 use Rattle.tw_machine.specs.World.{world}
-use Rattle.tw_machine.proofs.Tables.{all_joined}
+use Rattle.tw_types.proofs.Lists.{all_joined}
 use Rattle.safety_laws.specs.Beginnings.{IsBeginning, list_at, known, BeginsGroup, IsEndOfKnown, IsUnmarked, AreBegun, beginnings}
 use Rattle.safety_laws.specs.Effects.{Written, State, Here, MakeReason, Next, Group, Makes, Takes, Change}
 use Rattle.safety_laws.specs.Groups.{OfGroups, OfMember}

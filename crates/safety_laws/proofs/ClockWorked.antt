@@ -1,10 +1,8 @@
 -- The laws of the clocks and the delays, computed on small schedules and on rows that were made by hand.
 use Rattle.std.proofs.Common.{◌≡◌, refl, ℕ, List, [], ◌∷◌, map, Option, Some, None, arith}
 use Rattle.std.specs.Option.{option_map, option_and_then}
-use Rattle.tw_types.specs.declared.team.Team.{Team}
-use Rattle.tw_types.specs.declared.step.Step.{Step}
+use Rattle.tw_machine.specs.Types.{Team, Step, RowAnswer}
 use Rattle.tw_types.specs.declared.step.Act.TheVariants.{First, Tick, Recv, Reference, Look}
-use Rattle.tw_types.specs.declared.row.RowAnswer.{RowAnswer}
 use Rattle.tw_types.specs.Flag.{is_up}
 use Rattle.tw_types.specs.Row.{Row}
 use Rattle.tw_types.specs.Numbered.{numbered}

@@ -5,7 +5,8 @@ use Rattle.std.proofs.lemmas.Bool.{cases_Bool, or_cases}
 use Rattle.std.proofs.lemmas.List.{length-map}
 use Rattle.std.proofs.lemmas.List.Sums.{length-filter}
 use Rattle.std.proofs.lemmas.Map.Steps.{length-le_from_distinct_below}
-use Rattle.tw_machine.proofs.Tables.{all_joined, equal_numbers}
+use Rattle.tw_machine.proofs.Tables.{equal_numbers}
+use Rattle.tw_types.proofs.Lists.{all_joined}
 use Rattle.tw_types.specs.Items.{In}
 use Rattle.safety_laws.proofs.Lists.{of_each}
 

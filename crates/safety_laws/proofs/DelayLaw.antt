@@ -1,8 +1,7 @@
 -- The bounds of the time that a received datagram was on its way are never too low.
 use Rattle.std.proofs.Common.{◌≡◌, refl, ℕ, ◌≤◌, List, ◌∷◌, Some, Ok, IfSome}
-use Rattle.tw_types.specs.declared.team.Team.{Team}
+use Rattle.tw_machine.specs.Types.{Team, Step}
 use Rattle.tw_types.specs.Team.{IsSound}
-use Rattle.tw_types.specs.declared.step.Step.{Step}
 use Rattle.tw_types.specs.declared.step.Act.TheVariants.{Recv}
 use Rattle.tw_types.specs.Trips.{trip_of}
 use Rattle.tw_types.specs.Process.{Process}

@@ -1,7 +1,6 @@
 -- Same deliveries in one group: passes agree, and each update is delivered once.
 use Rattle.std.proofs.Common.{List}
-use Rattle.tw_types.specs.declared.step.Step.{Step}
-use Rattle.tw_types.specs.declared.team.Team.{Team}
+use Rattle.tw_machine.specs.Types.{Step, Team}
 use Rattle.tw_types.specs.Team.{IsSound}
 use Rattle.tw_machine.specs.Applied.{Meaning}
 use Rattle.tw_machine.specs.Rows.{rows_of}

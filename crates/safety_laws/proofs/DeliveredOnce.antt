@@ -3,12 +3,7 @@ use Rattle.std.proofs.Common.{◌≡◌, refl, sym, ap, subst, ◌∙◌, inl, i
 use Rattle.std.specs.Prelude.{◌≢◌, ◌≤◌}
 use Rattle.std.specs.List.{AllByRecursion}
 use Rattle.std.proofs.lemmas.Option.{same_Some}
-use Rattle.tw_types.specs.declared.team.Team.{Team}
-use Rattle.tw_types.specs.declared.message.Decision.{Decision}
-use Rattle.tw_types.specs.declared.message.Kept.{Kept}
-use Rattle.tw_types.specs.declared.message.Member.{Member}
-use Rattle.tw_types.specs.declared.outputs.How.{How}
-use Rattle.tw_types.specs.declared.step.Step.{Step}
+use Rattle.tw_machine.specs.Types.{Team, Decision, Kept, Member, How, Step}
 use Rattle.tw_types.specs.Beliefs.{is_informed, last_of}
 use Rattle.tw_types.specs.Decisions.{or_none, has_seat}
 use Rattle.tw_types.specs.Flag.{is_up}

@@ -2,11 +2,7 @@
 -- of the list is passed.
 use Rattle.std.proofs.Common.{◌≡◌, refl, sym, ap, subst, ◌∙◌, ℕ, true, List, [], ◌∷◌, ◌++◌, map, Option, Some}
 use Rattle.std.proofs.lemmas.List.{append_assoc}
-use Rattle.tw_types.specs.declared.team.Team.{Team}
-use Rattle.tw_types.specs.declared.message.Member.{Member}
-use Rattle.tw_types.specs.declared.outputs.Pass.{Pass}
-use Rattle.tw_types.specs.declared.step.Step.{Step}
-use Rattle.tw_types.specs.declared.message.Decision.{Decision}
+use Rattle.tw_machine.specs.Types.{Team, Member, Pass, Step, Decision}
 use Rattle.tw_types.specs.Beliefs.{last_of}
 use Rattle.tw_types.specs.Decisions.{or_none}
 use Rattle.tw_types.specs.Deliveries.{passes, run_passed, weaks, log_delivered, waiting_delivered}

@@ -1,7 +1,6 @@
 -- The law on what was delivered, of every schedule.
 use Rattle.std.proofs.Common.{List}
-use Rattle.tw_types.specs.declared.team.Team.{Team}
-use Rattle.tw_types.specs.declared.step.Step.{Step}
+use Rattle.tw_machine.specs.Types.{Team, Step}
 use Rattle.tw_types.specs.Team.{IsSound}
 use Rattle.tw_machine.specs.World.{Admissible}
 use Rattle.safety_laws.specs.Delivered.{delivered}

@@ -6,13 +6,8 @@ use Rattle.std.proofs.lemmas.Bool.Decides.{nat_tests}
 use Rattle.std.proofs.lemmas.Bool.{not-false}
 use Rattle.std.proofs.lemmas.List.{drop-map, drop-drop, drop-append-le, length-map, length-take-le, map-append}
 use Rattle.std.proofs.Math.Seq.{drop-append_seam, take-length}
-use Rattle.tw_types.specs.declared.message.Decision.{Decision}
-use Rattle.tw_types.specs.declared.message.Entry.{Entry}
-use Rattle.tw_types.specs.declared.message.Kept.{Kept}
-use Rattle.tw_types.specs.declared.message.UpdateId.{UpdateId}
-use Rattle.tw_types.specs.declared.answer.Reason.{Reason}
+use Rattle.tw_machine.specs.Types.{Decision, Entry, Kept, UpdateId, Reason, Team}
 use Rattle.tw_types.specs.declared.answer.Reason.TheVariants.{Gap}
-use Rattle.tw_types.specs.declared.team.Team.{Team}
 use Rattle.tw_types.specs.Appending.{added_entry, added_kept, appended_updates, appended_kept}
 use Rattle.tw_types.specs.Flag.{is_up}
 use Rattle.tw_types.proofs.Appended.{IsAddedFrom}

@@ -5,11 +5,8 @@ use Rattle.tw_num.specs.Clock.{Clock, reading_at, reading_of, interval_at, is_na
 use Rattle.tw_num.specs.declared.interval.Interval.{Interval}
 use Rattle.tw_num.specs.declared.interval.Disjoint.{Disjoint}
 use Rattle.tw_num.specs.declared.moment.Moment.{Moment}
-use Rattle.tw_types.specs.declared.team.Team.{Team}
-use Rattle.tw_types.specs.declared.answer.Reason.{Reason}
+use Rattle.tw_machine.specs.Types.{Team, Reason, Datagram, WireFault}
 use Rattle.tw_types.specs.declared.answer.Reason.TheVariants as reasons
-use Rattle.tw_types.specs.declared.datagram.Datagram.{Datagram}
-use Rattle.tw_types.specs.declared.datagram.WireFault.{WireFault}
 use Rattle.tw_types.specs.declared.datagram.WireFault.TheVariants as kinds
 use Rattle.tw_types.specs.Process.{Timing, Process}
 use Rattle.tw_machine.specs.Event.{Event}

@@ -6,14 +6,7 @@ use Rattle.std.specs.Prelude.{count_by}
 use Rattle.std.proofs.lemmas.Bool.Decides.{nat_tests}
 use Rattle.std.proofs.lemmas.List.{length-map}
 use Rattle.std.proofs.lemmas.Map.Keys.{IsDistinct-head, IsDistinct-tail, IsDistinct-cons}
-use Rattle.tw_types.specs.declared.team.Team.{Team}
-use Rattle.tw_types.specs.declared.ballot.Ballot.{Ballot}
-use Rattle.tw_types.specs.declared.message.Kept.{Kept}
-use Rattle.tw_types.specs.declared.message.Decision.{Decision}
-use Rattle.tw_types.specs.declared.message.Member.{Member}
-use Rattle.tw_types.specs.declared.message.Report.{Report}
-use Rattle.tw_types.specs.declared.message.Seat.{Seat}
-use Rattle.tw_types.specs.declared.message.Support.{Support}
+use Rattle.tw_machine.specs.Types.{Team, Ballot, Kept, Decision, Member, Report, Seat, Support}
 use Rattle.tw_types.specs.Beliefs.{Log, log_length}
 use Rattle.tw_types.specs.Decisions.{or_none, decision_length, is_same_member, is_seat_of, has_seat}
 use Rattle.tw_types.specs.Groups.{NoGroup, consistent, ascending, seat_of, lease_ends, readings, greatest, start_of, Objection, objections, first_objection, first_decision, group_made}

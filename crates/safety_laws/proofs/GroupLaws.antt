@@ -1,8 +1,7 @@
 -- The laws on groups, of every schedule.
 use Rattle.std.proofs.Common.{List}
-use Rattle.tw_types.specs.declared.team.Team.{Team}
+use Rattle.tw_machine.specs.Types.{Team, Step}
 use Rattle.tw_types.specs.Team.{IsSound}
-use Rattle.tw_types.specs.declared.step.Step.{Step}
 use Rattle.tw_machine.specs.History.{history}
 use Rattle.tw_machine.specs.World.{Admissible}
 use Rattle.safety_laws.specs.Effects.{written}

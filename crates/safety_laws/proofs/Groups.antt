@@ -3,11 +3,7 @@ use Rattle.std.proofs.Common.{◌≡◌, refl, sym, ap, subst, ◌∙◌, inl, i
 use Rattle.std.specs.List.{AllByRecursion, list_any}
 use Rattle.std.proofs.lemmas.Bool.{or_cases}
 use Rattle.std.proofs.lemmas.List.{length-map}
-use Rattle.tw_types.specs.declared.team.Team.{Team}
-use Rattle.tw_types.specs.declared.message.Decision.{Decision}
-use Rattle.tw_types.specs.declared.message.Member.{Member}
-use Rattle.tw_types.specs.declared.message.Report.{Report}
-use Rattle.tw_types.specs.declared.message.Seat.{Seat}
+use Rattle.tw_machine.specs.Types.{Team, Decision, Member, Report, Seat}
 use Rattle.tw_types.specs.Decisions.{is_seat_of, has_seat}
 use Rattle.tw_types.specs.Reports.{is_consistent}
 use Rattle.tw_machine.specs.History.{Promised, Make}

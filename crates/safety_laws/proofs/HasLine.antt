@@ -1,9 +1,7 @@
 -- Who delivered took a decision before.
 use Rattle.std.proofs.Common.{◌≡◌, sym, ap, subst, ◌∙◌, ℕ, ◌≤◌, List, ◌∷◌, Option, Some}
 use Rattle.std.specs.List.{AllByRecursion}
-use Rattle.tw_types.specs.declared.team.Team.{Team}
-use Rattle.tw_types.specs.declared.message.Decision.{Decision}
-use Rattle.tw_types.specs.declared.step.Step.{Step}
+use Rattle.tw_machine.specs.Types.{Team, Decision, Step}
 use Rattle.tw_types.specs.Beliefs.{last_of}
 use Rattle.tw_types.specs.Decisions.{or_none}
 use Rattle.tw_types.specs.Process.{Process, started}

@@ -1,10 +1,7 @@
 -- What is held to be taken may be taken while nothing is promised.
 use Rattle.std.proofs.Common.{◌≡◌, refl, sym, ap, subst, ◌∙◌, Bool, true, false, not, cond, Option, Some, None}
 use Rattle.std.specs.Option.{option_map}
-use Rattle.tw_types.specs.declared.team.Team.{Team}
-use Rattle.tw_types.specs.declared.message.Kept.{Kept}
-use Rattle.tw_types.specs.declared.message.Decision.{Decision}
-use Rattle.tw_types.specs.declared.outputs.Mode.{Mode}
+use Rattle.tw_machine.specs.Types.{Team, Kept, Decision, Mode}
 use Rattle.tw_types.specs.declared.outputs.Mode.TheVariants as modes
 use Rattle.tw_types.specs.Beliefs.{Belief, view_decision}
 use Rattle.tw_types.specs.Decisions.{or_none, is_older, has_seat}

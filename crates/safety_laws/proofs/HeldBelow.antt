@@ -1,13 +1,8 @@
 -- What is held for a group is below it.
 use Rattle.std.proofs.Common.{◌≡◌, refl, sym, ap, subst, ◌∙◌, ℕ, ◌<◌, ◌≤◌, ◌∷◌, List, Option, Some, None, true, arith}
 use Rattle.std.specs.List.{AllByRecursion}
-use Rattle.tw_types.specs.declared.team.Team.{Team}
-use Rattle.tw_types.specs.declared.ballot.Ballot.{Ballot}
-use Rattle.tw_types.specs.declared.message.Decision.{Decision}
-use Rattle.tw_types.specs.declared.message.Report.{Report}
-use Rattle.tw_types.specs.declared.outputs.Mode.{Mode}
+use Rattle.tw_machine.specs.Types.{Team, Ballot, Decision, Report, Mode, Step}
 use Rattle.tw_types.specs.declared.outputs.Mode.TheVariants as modes
-use Rattle.tw_types.specs.declared.step.Step.{Step}
 use Rattle.tw_types.specs.Process.{Process, ToTake, ToGroup, started}
 use Rattle.tw_types.specs.Reports.{is_by_informed}
 use Rattle.std.proofs.lemmas.Option.{same_Some}

@@ -2,12 +2,8 @@
 use Rattle.std.proofs.Common.{◌≡◌, ◌≢◌, sym, ap, subst, ◌∙◌, inl, inr, ℕ, true, false, List, [], ◌∷◌, map, drop, filter_map, Option, Some, None, arith}
 use Rattle.std.specs.List.{AllByRecursion}
 use Rattle.std.proofs.lemmas.Bool.Decides.{nat_tests}
-use Rattle.tw_types.specs.declared.datagram.Body.{Body}
+use Rattle.tw_machine.specs.Types.{Body, UpdateId, Entry, Kept, Decision}
 use Rattle.tw_types.specs.declared.datagram.Body.TheVariants as bodies
-use Rattle.tw_types.specs.declared.message.UpdateId.{UpdateId}
-use Rattle.tw_types.specs.declared.message.Entry.{Entry}
-use Rattle.tw_types.specs.declared.message.Kept.{Kept}
-use Rattle.tw_types.specs.declared.message.Decision.{Decision}
 use Rattle.tw_types.specs.Decisions.{or_none}
 use Rattle.tw_types.specs.Logs.{needed, entry_joined}
 use Rattle.tw_types.specs.Process.{Process}
@@ -17,7 +13,8 @@ use Rattle.tw_types.specs.Waiting.{payloads_of}
 use Rattle.tw_types.proofs.Appended.{IsAddedFrom}
 use Rattle.tw_machine.specs.Entering.{entered}
 use Rattle.tw_machine.specs.History.{SentUpdate, Make, list_of}
-use Rattle.tw_machine.proofs.Tables.{all_joined, all_mapped}
+use Rattle.tw_machine.proofs.Tables.{all_mapped}
+use Rattle.tw_types.proofs.Lists.{all_joined}
 use Rattle.safety_laws.specs.Effects.{WasSent}
 use Rattle.safety_laws.specs.Ids.{IsOfSend, EntryIsOfSend, MakeKeeps, ProcessKeeps, BodyKeeps}
 use Rattle.tw_types.specs.Items.{In}

@@ -1,14 +1,8 @@
 -- Each id keeps what its send gave: whatever a process keeps, tells or makes is of updates that were sent.
 use Rattle.std.proofs.Common.{◌≡◌, sym, ap, subst, ◌∙◌, ℕ, List, ◌∷◌, ◌++◌, map, Option, Some}
 use Rattle.std.specs.List.{AllByRecursion}
-use Rattle.tw_types.specs.declared.team.Team.{Team}
-use Rattle.tw_types.specs.declared.ballot.Ballot.{Ballot}
-use Rattle.tw_types.specs.declared.datagram.Body.{Body}
+use Rattle.tw_machine.specs.Types.{Team, Ballot, Body, Datagram, Kept, Decision, Step}
 use Rattle.tw_types.specs.declared.datagram.Body.TheVariants as bodies
-use Rattle.tw_types.specs.declared.datagram.Datagram.{Datagram}
-use Rattle.tw_types.specs.declared.message.Kept.{Kept}
-use Rattle.tw_types.specs.declared.message.Decision.{Decision}
-use Rattle.tw_types.specs.declared.step.Step.{Step}
 use Rattle.tw_types.specs.Beliefs.{log_length}
 use Rattle.tw_types.specs.Decisions.{or_none}
 use Rattle.tw_types.specs.Groups.{first_decision}
@@ -17,13 +11,13 @@ use Rattle.tw_types.specs.Sends.{as_sent}
 use Rattle.tw_types.specs.Turns.{next_decision}
 use Rattle.tw_types.specs.Votes.{Making}
 use Rattle.tw_types.specs.Waiting.{held_payloads, payloads_of}
-use Rattle.tw_types.proofs.Lists.{all_parted}
+use Rattle.tw_types.proofs.Lists.{all_parted, all_joined}
 use Rattle.tw_machine.specs.Deciding.{entries_to_add, kept_to_add, supporting}
 use Rattle.tw_machine.specs.Dispatches.{Dispatch, sent_at}
 use Rattle.tw_machine.specs.History.{SentUpdate, list_of}
 use Rattle.tw_machine.specs.Standing.{member_of, last_decision}
 use Rattle.tw_machine.specs.World.{world}
-use Rattle.tw_machine.proofs.Tables.{all_joined, all_mapped}
+use Rattle.tw_machine.proofs.Tables.{all_mapped}
 use Rattle.safety_laws.specs.Beginnings.{unmarked}
 use Rattle.safety_laws.specs.Effects.{Written, State, Here, WasSent, Origin, ByMail, ByItself, TellsUpdate, Again, First, Says, IsToldBy, Waits, Stays, Puts, Fills, Goes, ForTaking, ForGroup, Numbers, SendsNone, SendsOne, MakeReason, Next, Group, Makes, Change}
 use Rattle.safety_laws.specs.Groups.{of_groups}

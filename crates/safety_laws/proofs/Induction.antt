@@ -5,18 +5,11 @@ use Rattle.std.specs.List.{list_all, AllByRecursion}
 use Rattle.std.proofs.lemmas.Bool.Decides.{nat_tests}
 use Rattle.std.proofs.lemmas.Option.{same_Some}
 use Rattle.tw_types.specs.Numbered.{numbered}
-use Rattle.tw_types.specs.declared.team.Team.{Team}
-use Rattle.tw_types.specs.declared.datagram.Datagram.{Datagram}
-use Rattle.tw_types.specs.declared.step.Cause.{Cause}
-use Rattle.tw_types.specs.declared.step.Act.{Act}
-use Rattle.tw_types.specs.declared.step.Step.{Step}
+use Rattle.tw_machine.specs.Types.{Team, Datagram, Cause, Act, Step, RowAnswer, Mode, Reason}
 use Rattle.tw_types.specs.declared.step.Act.TheVariants.{First, Again, Crash, Tick, Recv, Send, Reference, Look}
-use Rattle.tw_types.specs.declared.row.RowAnswer.{RowAnswer}
-use Rattle.tw_types.specs.declared.outputs.Mode.{Mode}
 use Rattle.tw_types.specs.declared.outputs.Mode.TheVariants as modes
 use Rattle.tw_num.specs.Interval.{Holds}
 use Rattle.tw_types.specs.Process.{Process, started}
-use Rattle.tw_types.specs.declared.answer.Reason.{Reason}
 use Rattle.tw_machine.specs.Admissible.{Condition, conditions, first_unmet, cause_of, keeps_drift, is_start, is_running, runs_after, may_start, was_sent_to, may_receive, holds_time, each_own}
 use Rattle.tw_machine.specs.Event.{Event}
 use Rattle.tw_machine.specs.Step.{step, looked}

@@ -1,8 +1,6 @@
 -- Promised is the latest.
 use Rattle.std.proofs.Common.{◌≡◌, ◌≢◌, refl, sym, ap, subst, ◌∙◌, inl, inr, ℕ, suc, ◌≤◌, List, ◌∷◌, arith}
-use Rattle.tw_types.specs.declared.team.Team.{Team}
-use Rattle.tw_types.specs.declared.outputs.Mode.{Mode}
-use Rattle.tw_types.specs.declared.step.Step.{Step}
+use Rattle.tw_machine.specs.Types.{Team, Mode, Step}
 use Rattle.tw_types.specs.Votes.{Vote}
 use Rattle.tw_types.specs.Process.{Process, started}
 use Rattle.tw_machine.specs.History.{Promised, life, promise_item}

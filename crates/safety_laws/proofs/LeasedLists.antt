@@ -1,9 +1,6 @@
 -- Leased support, on the lists of what was made and who was up.
 use Rattle.std.proofs.Common.{◌≡◌, sym, subst, ◌∙◌, ap, ℕ, ◌+◌, ◌/◌, ◌≤◌, true, List, count_by}
-use Rattle.tw_types.specs.declared.team.Team.{Team}
-use Rattle.tw_types.specs.declared.message.Decision.{Decision}
-use Rattle.tw_types.specs.declared.message.Member.{Member}
-use Rattle.tw_types.specs.declared.message.Seat.{Seat}
+use Rattle.tw_machine.specs.Types.{Team, Decision, Member, Seat}
 use Rattle.tw_types.specs.Flag.{counts}
 use Rattle.tw_machine.specs.History.{Promised, Make, Up}
 use Rattle.tw_types.specs.Items.{In}

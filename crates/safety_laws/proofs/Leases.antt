@@ -1,10 +1,7 @@
 -- Leases outlast older groups: a later group starts above each reading at which a majority's supports of an older one count.
 use Rattle.std.proofs.Common.{◌≡◌, refl, sym, subst, ◌⊎◌, inl, inr, ℕ, ◌+◌, ◌/◌, ◌≤◌, ◌<◌, true, false, List, Option, Some, None, is_some, count_by, arith}
 use Rattle.std.proofs.lemmas.Bool.Decides.{nat_tests}
-use Rattle.tw_types.specs.declared.team.Team.{Team}
-use Rattle.tw_types.specs.declared.message.Decision.{Decision}
-use Rattle.tw_types.specs.declared.message.Seat.{Seat}
-use Rattle.tw_types.specs.declared.message.Support.{Support}
+use Rattle.tw_machine.specs.Types.{Team, Decision, Seat, Support}
 use Rattle.tw_types.specs.Flag.{counts, is_supported}
 use Rattle.tw_machine.specs.History.{Promised, Make, Up}
 use Rattle.safety_laws.specs.Full.{is_full}

@@ -1,10 +1,7 @@
 -- Each delivery that a row prints is told by a line of the history.
 use Rattle.std.proofs.Common.{◌≡◌, refl, sym, ap, subst, inl, inr, ◌⊎◌, ℕ, Bool, true, false, cond, nat_eq, List, [], ◌∷◌, ◌++◌, map, Some, slice_get, ◌∙◌}
 use Rattle.std.specs.List.{AllByRecursion}
-use Rattle.tw_types.specs.declared.message.Kept.{Kept}
-use Rattle.tw_types.specs.declared.message.Member.{Member}
-use Rattle.tw_types.specs.declared.step.Step.{Step}
-use Rattle.tw_types.specs.declared.team.Team.{Team}
+use Rattle.tw_machine.specs.Types.{Kept, Member, Step, Team}
 use Rattle.tw_types.specs.Items.{In}
 use Rattle.tw_types.specs.Printed.{update_printed}
 use Rattle.tw_types.specs.Row.{Pass, Row, Update}

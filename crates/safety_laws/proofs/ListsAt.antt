@@ -1,8 +1,7 @@
 -- What the laws on lists say at one moment, by the facts on groups and lists there.
 use Rattle.std.proofs.Common.{◌≡◌, ℕ, ◌+◌, ◌/◌, ◌≤◌, List, length, take, count_by}
 use Rattle.std.specs.List.{AllByRecursion}
-use Rattle.tw_types.specs.declared.team.Team.{Team}
-use Rattle.tw_types.specs.declared.step.Step.{Step}
+use Rattle.tw_machine.specs.Types.{Team, Step}
 use Rattle.tw_types.specs.Items.{In}
 use Rattle.tw_machine.specs.History.{Make}
 use Rattle.safety_laws.specs.Acknowledged.{has_acked, Supported, AddsLast}

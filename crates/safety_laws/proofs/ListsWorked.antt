@@ -5,19 +5,10 @@ use Rattle.std.proofs.Common.{◌≡◌, refl, sym, ap, subst, inl, inr, ℕ, �
 use Rattle.std.specs.Option.{option_map}
 use Rattle.std.proofs.lemmas.Option.{same_Some}
 use Rattle.tw_types.specs.Deliveries.{run_passed, earlies_marked}
-use Rattle.tw_types.specs.declared.ballot.Ballot.{Ballot}
-use Rattle.tw_types.specs.declared.message.Decision.{Decision}
-use Rattle.tw_types.specs.declared.message.Entry.{Entry}
-use Rattle.tw_types.specs.declared.message.Kept.{Kept}
+use Rattle.tw_machine.specs.Types.{Ballot, Decision, Entry, Kept, Member, Report, Seat, Support, TimeMark, Step}
 use Rattle.tw_types.specs.declared.message.Kind.TheVariants as kinds
-use Rattle.tw_types.specs.declared.message.Member.{Member}
 use Rattle.tw_types.specs.declared.message.Order.TheVariants as orders
-use Rattle.tw_types.specs.declared.message.Report.{Report}
-use Rattle.tw_types.specs.declared.message.Seat.{Seat}
-use Rattle.tw_types.specs.declared.message.Support.{Support}
-use Rattle.tw_types.specs.declared.message.TimeMark.{TimeMark}
 use Rattle.tw_types.specs.declared.step.Act.TheVariants.{Tick, Recv}
-use Rattle.tw_types.specs.declared.step.Step.{Step}
 use Rattle.tw_types.specs.Appending.{appended_list, appended_kept, mark_after}
 use Rattle.tw_types.specs.Beliefs.{is_informed, view_decision, Log}
 use Rattle.tw_types.specs.Examples.{team_a}

@@ -6,19 +6,14 @@ use Rattle.std.specs.Option.{option_map, option_map_or}
 use Rattle.std.proofs.lemmas.Bool.Decides.{nat_tests}
 use Rattle.std.proofs.lemmas.Bool.{false_from_ne_true}
 use Rattle.std.proofs.lemmas.Option.{same_Some}
-use Rattle.tw_types.specs.declared.message.Decision.{Decision}
-use Rattle.tw_types.specs.declared.message.Entry.{Entry}
-use Rattle.tw_types.specs.declared.message.Kept.{Kept}
-use Rattle.tw_types.specs.declared.message.Member.{Member}
-use Rattle.tw_types.specs.declared.message.Seat.{Seat}
-use Rattle.tw_types.specs.declared.message.UpdateId.{UpdateId}
+use Rattle.tw_machine.specs.Types.{Decision, Entry, Kept, Member, Seat, UpdateId}
 use Rattle.tw_types.specs.Decisions.{is_same_member, is_seat_of, has_seat}
 use Rattle.tw_types.specs.Items.{In}
 use Rattle.tw_types.specs.Logs.{entry_joined}
 use Rattle.tw_types.specs.Updates.{is_same_id, is_named, find_update, has_update, sender, is_awaited, pending_room, seat_of_sender, stays_pending}
 use Rattle.tw_types.proofs.Appended.{in_map, of_map, in_filter, of_filter}
 use Rattle.tw_machine.specs.History.{Make}
-use Rattle.tw_machine.proofs.Tables.{all_joined}
+use Rattle.tw_types.proofs.Lists.{all_joined}
 use Rattle.safety_laws.specs.Beginnings.{unmarked}
 use Rattle.safety_laws.specs.Early.{IsAbsent}
 use Rattle.safety_laws.specs.Lists.{seqs_of, GoByOne, IsListOf}

@@ -3,14 +3,7 @@ use Rattle.std.proofs.Common.{◌≡◌, refl, sym, ap, subst, ◌∙◌, ◌⊎
 use Rattle.std.proofs.lemmas.Bool.{cases_lt}
 use Rattle.std.proofs.lemmas.Option.{same_Some}
 use Rattle.std.proofs.Math.Logic.{⊎_map}
-use Rattle.tw_types.specs.declared.team.Team.{Team}
-use Rattle.tw_types.specs.declared.message.Decision.{Decision}
-use Rattle.tw_types.specs.declared.message.Kept.{Kept}
-use Rattle.tw_types.specs.declared.message.Member.{Member}
-use Rattle.tw_types.specs.declared.message.Report.{Report}
-use Rattle.tw_types.specs.declared.message.Seat.{Seat}
-use Rattle.tw_types.specs.declared.message.UpdateId.{UpdateId}
-use Rattle.tw_types.specs.declared.step.Step.{Step}
+use Rattle.tw_machine.specs.Types.{Team, Decision, Kept, Member, Report, Seat, UpdateId, Step}
 use Rattle.tw_types.specs.Beliefs.{last_of, view_decision}
 use Rattle.tw_types.specs.Decisions.{or_none, is_seat_of, has_seat}
 use Rattle.tw_types.specs.Items.{In}
@@ -19,7 +12,7 @@ use Rattle.tw_types.specs.Reports.{is_by_informed, is_consistent}
 use Rattle.tw_types.specs.Updates.{sender}
 use Rattle.tw_machine.specs.History.{Promised, Make, make_item, list_of}
 use Rattle.tw_machine.specs.Standing.{member_of}
-use Rattle.tw_machine.proofs.Tables.{all_joined}
+use Rattle.tw_types.proofs.Lists.{all_joined}
 use Rattle.safety_laws.specs.Early.{IsAbsent, IsLostIn, IsLost, lost}
 use Rattle.safety_laws.specs.Effects.{Written, State, Here, Makes}
 use Rattle.safety_laws.specs.Groups.{HasMajority, OfGroups, OfMember}

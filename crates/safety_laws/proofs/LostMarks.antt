@@ -2,10 +2,7 @@
 use Rattle.std.proofs.Common.{◌≡◌, refl, sym, ap, subst, ◌∙◌, inl, inr, ◌⊎◌, ℕ, zero, suc, ◌-◌, Bool, true, false, cond, List, [], ◌∷◌, ◌++◌, Option, Some, None}
 use Rattle.std.specs.Prelude.{slice_get, slice_set}
 use Rattle.std.specs.List.{AllByRecursion}
-use Rattle.tw_types.specs.declared.team.Team.{Team}
-use Rattle.tw_types.specs.declared.message.Decision.{Decision}
-use Rattle.tw_types.specs.declared.message.Kept.{Kept}
-use Rattle.tw_types.specs.declared.message.UpdateId.{UpdateId}
+use Rattle.tw_machine.specs.Types.{Team, Decision, Kept, UpdateId}
 use Rattle.tw_types.specs.Beliefs.{Log}
 use Rattle.tw_types.specs.Deliveries.{run_passed, as_early, early_positions, marked_each, earlies_marked, weaks_marked, log_delivered}
 use Rattle.tw_types.specs.Items.{In}

@@ -3,12 +3,7 @@
 use Rattle.std.proofs.Common.{◌≡◌, ◌≢◌, refl, sym, ap, subst, ◌∙◌, inl, inr, ◌⊎◌, ℕ, zero, suc, ◌≤◌, ◌<◌, true, false, List, ◌++◌, map, filter_map, Option, Some, arith}
 use Rattle.std.proofs.lemmas.Bool.{false_from_ne_true}
 use Rattle.std.proofs.lemmas.List.{map-append}
-use Rattle.tw_types.specs.declared.team.Team.{Team}
-use Rattle.tw_types.specs.declared.message.Decision.{Decision}
-use Rattle.tw_types.specs.declared.message.Entry.{Entry}
-use Rattle.tw_types.specs.declared.message.Kept.{Kept}
-use Rattle.tw_types.specs.declared.message.UpdateId.{UpdateId}
-use Rattle.tw_types.specs.declared.step.Step.{Step}
+use Rattle.tw_machine.specs.Types.{Team, Decision, Entry, Kept, UpdateId, Step}
 use Rattle.tw_types.specs.Beliefs.{last_of, view_decision}
 use Rattle.tw_types.specs.Decisions.{or_none, has_seat}
 use Rattle.tw_types.specs.Items.{In}
@@ -19,7 +14,7 @@ use Rattle.tw_types.specs.Waiting.{held_payloads, payloads_of}
 use Rattle.tw_types.proofs.Appended.{in_filter}
 use Rattle.tw_machine.specs.History.{Make}
 use Rattle.tw_machine.specs.Standing.{member_of}
-use Rattle.tw_machine.proofs.Tables.{all_joined}
+use Rattle.tw_types.proofs.Lists.{all_joined}
 use Rattle.safety_laws.specs.Beginnings.{unmarked}
 use Rattle.safety_laws.specs.Early.{IsMarked, IsAbsent, IsLost}
 use Rattle.safety_laws.specs.Effects.{Written}

@@ -4,18 +4,8 @@ use Rattle.std.specs.List.{AllByRecursion}
 use Rattle.std.specs.Option.{option_map}
 use Rattle.std.proofs.lemmas.Bool.Decides.{nat_tests}
 use Rattle.std.proofs.lemmas.Option.{same_Some}
-use Rattle.tw_types.specs.declared.team.Team.{Team}
-use Rattle.tw_types.specs.declared.ballot.Ballot.{Ballot}
-use Rattle.tw_types.specs.declared.datagram.Body.{Body}
+use Rattle.tw_machine.specs.Types.{Team, Ballot, Body, Datagram, Head, Entry, Kept, Decision, Member, Report, Step}
 use Rattle.tw_types.specs.declared.datagram.Body.TheVariants as bodies
-use Rattle.tw_types.specs.declared.datagram.Datagram.{Datagram}
-use Rattle.tw_types.specs.declared.datagram.Head.{Head}
-use Rattle.tw_types.specs.declared.message.Entry.{Entry}
-use Rattle.tw_types.specs.declared.message.Kept.{Kept}
-use Rattle.tw_types.specs.declared.message.Decision.{Decision}
-use Rattle.tw_types.specs.declared.message.Member.{Member}
-use Rattle.tw_types.specs.declared.message.Report.{Report}
-use Rattle.tw_types.specs.declared.step.Step.{Step}
 use Rattle.tw_types.specs.Ballots.{begun, joined, wants, greater}
 use Rattle.tw_types.specs.Beliefs.{Belief, Informed, Blank, is_informed, last_of, view_decision}
 use Rattle.tw_types.specs.Decisions.{or_none, has_seat, decision_length}
@@ -34,7 +24,8 @@ use Rattle.tw_machine.specs.Standing.{member_of, last_decision, report_by}
 use Rattle.tw_machine.specs.Deciding.{entries_to_add, kept_to_add}
 use Rattle.tw_machine.specs.Entering.{entered}
 use Rattle.tw_machine.specs.World.{world}
-use Rattle.tw_machine.proofs.Tables.{all_joined, all_mapped, all_push}
+use Rattle.tw_machine.proofs.Tables.{all_mapped, all_push}
+use Rattle.tw_types.proofs.Lists.{all_joined}
 use Rattle.safety_laws.specs.Effects.{Written, State, Here, Says, IsToldBy, held_decision, Source, Comes, WasHeld, Waits, Stays, Puts, Fills, Goes, ForTaking, ForGroup, Promises, BallotReason, Begins, Adds, Drops, MakeReason, Next, Group, Makes, Change}
 use Rattle.safety_laws.specs.Full.{is_full}
 use Rattle.safety_laws.specs.Laws.{Holds}

@@ -1,8 +1,7 @@
 -- A decision that a step makes is the last one that its process has after the step.
 use Rattle.std.proofs.Common.{◌≡◌, sym, ap, ◌∙◌, ℕ, Bool, true, false, cond, Option, Some, None}
 use Rattle.tw_num.specs.declared.moment.Moment.{Moment}
-use Rattle.tw_types.specs.declared.team.Team.{Team}
-use Rattle.tw_types.specs.declared.message.Decision.{Decision}
+use Rattle.tw_machine.specs.Types.{Team, Decision}
 use Rattle.tw_types.specs.Beliefs.{last_of}
 use Rattle.tw_types.specs.Decisions.{or_none}
 use Rattle.tw_types.specs.Elections.{why_begun, own_promise}

@@ -5,9 +5,7 @@ use Rattle.std.specs.List.{filter_map}
 use Rattle.std.specs.Option.{unwrap_or, option_map}
 use Rattle.std.proofs.lemmas.Bool.Decides.{nat_tests}
 use Rattle.std.proofs.lemmas.Option.{same_Some}
-use Rattle.tw_types.specs.declared.message.Decision.{Decision}
-use Rattle.tw_types.specs.declared.step.Step.{Step}
-use Rattle.tw_types.specs.declared.team.Team.{Team}
+use Rattle.tw_machine.specs.Types.{Decision, Step, Team}
 use Rattle.tw_types.specs.Printed.{made_printed}
 use Rattle.tw_types.specs.Row.{Row, Made}
 use Rattle.tw_machine.specs.Applied.{Meaning}

@@ -1,10 +1,7 @@
 -- The law on what was promised and made, of every schedule.
 use Rattle.std.proofs.Common.{◌≡◌, ◌≢◌, refl, sym, ap, subst, ◌∙◌, ℕ, zero, suc, ◌≤◌, true, false, not, ◌||◌, List, ◌∷◌, Option, Some, None, arith}
-use Rattle.tw_types.specs.declared.team.Team.{Team}
-use Rattle.tw_types.specs.declared.message.Decision.{Decision}
-use Rattle.tw_types.specs.declared.outputs.Mode.{Mode}
+use Rattle.tw_machine.specs.Types.{Team, Decision, Mode, Step}
 use Rattle.tw_types.specs.declared.outputs.Mode.TheVariants as modes
-use Rattle.tw_types.specs.declared.step.Step.{Step}
 use Rattle.tw_types.specs.Process.{Process, started}
 use Rattle.tw_machine.specs.Admissible.{may_start}
 use Rattle.tw_machine.specs.History.{Promised, Make, life}

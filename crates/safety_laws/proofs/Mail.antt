@@ -1,14 +1,12 @@
 -- Packets hold promises.
 use Rattle.std.proofs.Common.{◌≡◌, refl, sym, ap, ◌∙◌, inl, inr, ℕ, List, ◌∷◌, map}
 use Rattle.std.specs.List.{AllByRecursion}
-use Rattle.tw_types.specs.declared.team.Team.{Team}
-use Rattle.tw_types.specs.declared.datagram.Body.{Body}
+use Rattle.tw_machine.specs.Types.{Team, Body, Datagram, Step}
 use Rattle.tw_types.specs.declared.datagram.Body.TheVariants as bodies
-use Rattle.tw_types.specs.declared.datagram.Datagram.{Datagram}
-use Rattle.tw_types.specs.declared.step.Step.{Step}
 use Rattle.tw_machine.specs.Dispatches.{Dispatch, sent_at}
 use Rattle.tw_machine.specs.History.{Promised, promise_item}
-use Rattle.tw_machine.proofs.Tables.{all_joined, all_mapped}
+use Rattle.tw_machine.proofs.Tables.{all_mapped}
+use Rattle.tw_types.proofs.Lists.{all_joined}
 use Rattle.safety_laws.specs.Effects.{State, Here, Says, IsToldBy, Change}
 use Rattle.safety_laws.specs.Mail.{TellsGiven, mail}
 use Rattle.safety_laws.specs.Names.{names}

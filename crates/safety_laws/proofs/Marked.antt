@@ -5,9 +5,7 @@ use Rattle.std.specs.List.{AllByRecursion}
 use Rattle.std.specs.Option.{option_map}
 use Rattle.std.proofs.lemmas.List.{length-map, map-append}
 use Rattle.std.proofs.lemmas.Option.{slice_get-map}
-use Rattle.tw_types.specs.declared.team.Team.{Team}
-use Rattle.tw_types.specs.declared.message.Decision.{Decision}
-use Rattle.tw_types.specs.declared.message.Kept.{Kept}
+use Rattle.tw_machine.specs.Types.{Team, Decision, Kept}
 use Rattle.tw_types.specs.Beliefs.{Log, log_length}
 use Rattle.tw_types.specs.Deliveries.{run_passed, as_early, early_positions, marked_each, earlies_marked, weaks_marked, log_delivered, waiting_delivered}
 use Rattle.tw_types.specs.Logs.{log_at, marked_at}

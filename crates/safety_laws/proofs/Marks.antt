@@ -3,16 +3,9 @@ use Rattle.std.proofs.Common.{◌≡◌, refl, sym, ap, subst, ◌∙◌, inl, i
 use Rattle.std.specs.Prelude.{slice_set}
 use Rattle.std.specs.List.{AllByRecursion}
 use Rattle.std.specs.Option.{option_map}
-use Rattle.tw_types.specs.declared.team.Team.{Team}
+use Rattle.tw_machine.specs.Types.{Team, Datagram, Decision, Kept, Member, UpdateId, Mode, Step}
 use Rattle.tw_types.specs.declared.datagram.Body.TheVariants as bodies
-use Rattle.tw_types.specs.declared.datagram.Datagram.{Datagram}
-use Rattle.tw_types.specs.declared.message.Decision.{Decision}
-use Rattle.tw_types.specs.declared.message.Kept.{Kept}
-use Rattle.tw_types.specs.declared.message.Member.{Member}
-use Rattle.tw_types.specs.declared.message.UpdateId.{UpdateId}
-use Rattle.tw_types.specs.declared.outputs.Mode.{Mode}
 use Rattle.tw_types.specs.declared.outputs.Mode.TheVariants as modes
-use Rattle.tw_types.specs.declared.step.Step.{Step}
 use Rattle.tw_types.specs.Beliefs.{Log, log_length}
 use Rattle.tw_types.specs.Deliveries.{passes, run_passed, as_early, early_positions, marked_each, earlies_marked, weaks, weaks_marked, log_delivered, waiting_delivered}
 use Rattle.tw_types.specs.Items.{In}
@@ -21,14 +14,13 @@ use Rattle.tw_types.specs.Process.{Process, started}
 use Rattle.tw_types.specs.Updates.{may_be_early}
 use Rattle.tw_types.specs.Waiting.{held_payloads, payloads_of}
 use Rattle.tw_types.proofs.Appended.{in_map}
-use Rattle.tw_types.proofs.Lists.{all_parted}
+use Rattle.tw_types.proofs.Lists.{all_parted, all_joined}
 use Rattle.tw_machine.specs.Delivering.{delivered_at, earlies_told, all_told}
 use Rattle.tw_machine.specs.Dispatches.{Dispatch}
 use Rattle.tw_machine.specs.History.{Line, line_item, lines_on}
 use Rattle.tw_machine.specs.Run.{AtEarly, AtWait, Delivered}
 use Rattle.tw_machine.specs.Standing.{member_of}
 use Rattle.tw_machine.specs.World.{world}
-use Rattle.tw_machine.proofs.Tables.{all_joined}
 use Rattle.safety_laws.specs.Early.{is_early, WentEarly, IsTold, AreTold, marks}
 use Rattle.safety_laws.specs.Effects.{Written, State, Here, WasSent, Origin, ByMail, ByItself, Waits, Stays, Puts, Fills, Goes, ForTaking, ForGroup, Delivers, Change}
 use Rattle.safety_laws.specs.Ids.{BodyKeeps}

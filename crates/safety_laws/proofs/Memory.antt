@@ -1,9 +1,6 @@
 -- A process remembers or outlived its supports.
 use Rattle.std.proofs.Common.{◌≡◌, ◌≢◌, sym, ap, subst, ◌∙◌, ℕ, suc, ◌≤◌, true, false, List, ◌∷◌, Some, None, arith}
-use Rattle.tw_types.specs.declared.team.Team.{Team}
-use Rattle.tw_types.specs.declared.message.Member.{Member}
-use Rattle.tw_types.specs.declared.outputs.Mode.{Mode}
-use Rattle.tw_types.specs.declared.step.Step.{Step}
+use Rattle.tw_machine.specs.Types.{Team, Member, Mode, Step}
 use Rattle.tw_types.specs.Beliefs.{is_informed}
 use Rattle.tw_types.specs.Process.{Process, started}
 use Rattle.tw_types.specs.Votes.{Vote}

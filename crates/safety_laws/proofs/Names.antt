@@ -4,14 +4,11 @@ use Rattle.std.specs.Prelude.{nat_le, nat_lt}
 use Rattle.std.specs.List.{AllByRecursion}
 use Rattle.std.proofs.lemmas.Bool.{and_parts}
 use Rattle.std.proofs.lemmas.Bool.Decides.{nat_tests}
-use Rattle.tw_types.specs.declared.team.Team.{Team}
-use Rattle.tw_types.specs.declared.step.Step.{Step}
-use Rattle.tw_types.specs.declared.outputs.Mode.{Mode}
+use Rattle.tw_machine.specs.Types.{Team, Step, Mode, Report}
 use Rattle.tw_types.specs.declared.outputs.Mode.TheVariants as modes
 use Rattle.tw_types.specs.Promises.{is_again}
 use Rattle.tw_types.specs.Process.{Identity, Process, started}
 use Rattle.tw_machine.specs.Admissible.{is_start, is_first, each_own, keeps_drift, may_start, was_started, is_running}
-use Rattle.tw_types.specs.declared.message.Report.{Report}
 use Rattle.tw_machine.specs.History.{Promised, Up, life, promise_item, make_item, up_at}
 use Rattle.tw_machine.specs.Standing.{member_of}
 use Rattle.tw_machine.specs.History as items

@@ -3,12 +3,7 @@ use Rattle.std.proofs.Common.{◌≡◌, ◌||◌, refl, sym, ap, subst, ◌∙�
 use Rattle.std.specs.List.{list_all, list_any, fold, cons_option}
 use Rattle.std.specs.Option.{option_or, option_map_or}
 use Rattle.std.proofs.lemmas.Bool.Decides.{nat_tests}
-use Rattle.tw_types.specs.declared.team.Team.{Team}
-use Rattle.tw_types.specs.declared.message.Entry.{Entry}
-use Rattle.tw_types.specs.declared.message.Decision.{Decision}
-use Rattle.tw_types.specs.declared.message.Member.{Member}
-use Rattle.tw_types.specs.declared.message.Seat.{Seat}
-use Rattle.tw_types.specs.declared.message.Support.{Support}
+use Rattle.tw_machine.specs.Types.{Team, Entry, Decision, Member, Seat, Support}
 use Rattle.tw_types.specs.Decisions.{decision_length, is_same_member, is_seat_of}
 use Rattle.tw_types.specs.Slots.{seat_after}
 use Rattle.tw_types.specs.Appending.{raised, with_appended}

@@ -1,10 +1,7 @@
 -- Readings don't run ahead.
 use Rattle.std.proofs.Common.{◌≡◌, sym, ap, subst, ◌∙◌, ℕ, suc, ◌≤◌, List, ◌∷◌, Option, Some, None, IfSome, arith}
 use Rattle.std.specs.List.{AllByRecursion}
-use Rattle.tw_types.specs.declared.team.Team.{Team}
-use Rattle.tw_types.specs.declared.message.Report.{Report}
-use Rattle.tw_types.specs.declared.outputs.Mode.{Mode}
-use Rattle.tw_types.specs.declared.step.Step.{Step}
+use Rattle.tw_machine.specs.Types.{Team, Report, Mode, Step}
 use Rattle.tw_types.specs.Process.{started}
 use Rattle.tw_machine.specs.ClockLaw.{IsNear}
 use Rattle.tw_machine.specs.History.{Promised, Up, life, promise_item, make_item, up_at}

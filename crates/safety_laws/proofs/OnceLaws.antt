@@ -1,7 +1,6 @@
 -- The laws on early deliveries, of every schedule: each mark has its line, a lost mark is lost for good, and each update is delivered once.
 use Rattle.std.proofs.Common.{List}
-use Rattle.tw_types.specs.declared.step.Step.{Step}
-use Rattle.tw_types.specs.declared.team.Team.{Team}
+use Rattle.tw_machine.specs.Types.{Step, Team}
 use Rattle.tw_types.specs.Team.{IsSound}
 use Rattle.tw_machine.specs.History.{history}
 use Rattle.tw_machine.specs.World.{Admissible}

@@ -2,9 +2,7 @@
 use Rattle.std.proofs.Common.{◌≡◌, sym, ap, subst, ◌∙◌, ◌⊎◌, inl, inr, ℕ, ◌+◌, ◌/◌, ◌≤◌, ◌<◌, List, map, length, arith}
 use Rattle.std.proofs.lemmas.List.{length-map}
 use Rattle.std.proofs.lemmas.Bool.{cases_lt}
-use Rattle.tw_types.specs.declared.team.Team.{Team}
-use Rattle.tw_types.specs.declared.message.Decision.{Decision}
-use Rattle.tw_types.specs.declared.message.Seat.{Seat}
+use Rattle.tw_machine.specs.Types.{Team, Decision, Seat}
 use Rattle.tw_machine.specs.History.{Promised, Make, Up}
 use Rattle.tw_types.specs.Items.{In}
 use Rattle.safety_laws.specs.Made.{members}

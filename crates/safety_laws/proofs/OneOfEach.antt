@@ -3,8 +3,7 @@ use Rattle.std.proofs.Common.{◌≡◌, sym, ap, subst, ◌∙◌, inl, inr, �
 use Rattle.std.specs.Prelude.{slice_get}
 use Rattle.std.specs.List.{AllByRecursion}
 use Rattle.std.proofs.lemmas.Bool.Decides.{nat_tests}
-use Rattle.tw_types.specs.declared.message.Kept.{Kept}
-use Rattle.tw_types.specs.declared.message.UpdateId.{UpdateId}
+use Rattle.tw_machine.specs.Types.{Kept, UpdateId}
 use Rattle.tw_types.specs.Beliefs.{Log}
 use Rattle.tw_types.specs.Items.{In}
 use Rattle.tw_types.specs.Logs.{log_at}

@@ -1,9 +1,7 @@
 -- A restarted process promises behind its leases.
 use Rattle.std.proofs.Common.{◌≡◌, refl, sym, ap, subst, ◌∙◌, ◌+◌, ◌≤◌, ◌<◌, List, ◌∷◌, arith}
 use Rattle.std.specs.List.{AllByRecursion}
-use Rattle.tw_types.specs.declared.team.Team.{Team}
-use Rattle.tw_types.specs.declared.message.Report.{Report}
-use Rattle.tw_types.specs.declared.step.Step.{Step}
+use Rattle.tw_machine.specs.Types.{Team, Report, Step}
 use Rattle.tw_machine.specs.ClockLaw.{IsNear}
 use Rattle.tw_machine.specs.History.{Promised, life, promise_item, make_item}
 use Rattle.tw_machine.specs.History as items

@@ -1,10 +1,7 @@
 -- Groups that were made when a greater one had been made already: no decision of one has supports of a majority.
 use Rattle.std.proofs.Common.{◌≡◌, sym, ap, subst, ◌∙◌, ◌⊎◌, inl, inr, ℕ, zero, suc, ◌≤◌, ◌<◌, List, [], ◌∷◌, Some, is_some, arith}
 use Rattle.std.proofs.lemmas.Bool.{cases_lt}
-use Rattle.tw_types.specs.declared.team.Team.{Team}
-use Rattle.tw_types.specs.declared.message.Decision.{Decision}
-use Rattle.tw_types.specs.declared.message.Seat.{Seat}
-use Rattle.tw_types.specs.declared.step.Step.{Step}
+use Rattle.tw_machine.specs.Types.{Team, Decision, Seat, Step}
 use Rattle.tw_types.specs.Items.{In}
 use Rattle.tw_machine.specs.History.{Promised, Make}
 use Rattle.safety_laws.specs.Effects.{Written}

@@ -4,15 +4,9 @@ use Rattle.std.specs.Prelude.{slice_get, ◌||◌}
 use Rattle.std.specs.List.{AllByRecursion}
 use Rattle.std.proofs.Math.Seq.{take-length}
 use Rattle.std.proofs.lemmas.Bool.{false_from_ne_true}
-use Rattle.tw_types.specs.declared.team.Team.{Team}
-use Rattle.tw_types.specs.declared.message.Decision.{Decision}
-use Rattle.tw_types.specs.declared.message.Kept.{Kept}
-use Rattle.tw_types.specs.declared.message.Member.{Member}
-use Rattle.tw_types.specs.declared.outputs.How.{How}
+use Rattle.tw_machine.specs.Types.{Team, Decision, Kept, Member, How, Mode, Step}
 use Rattle.tw_types.specs.declared.outputs.How.TheVariants.{Late}
-use Rattle.tw_types.specs.declared.outputs.Mode.{Mode}
 use Rattle.tw_types.specs.declared.outputs.Mode.TheVariants as modes
-use Rattle.tw_types.specs.declared.step.Step.{Step}
 use Rattle.tw_types.specs.Beliefs.{Log, is_informed, view_decision, last_of}
 use Rattle.tw_types.specs.Deliveries.{fulfils, passes_at, how_passed, run_passed}
 use Rattle.tw_types.specs.Items.{In}

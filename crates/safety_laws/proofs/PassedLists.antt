@@ -7,13 +7,7 @@ use Rattle.std.proofs.lemmas.Option.{same_Some}
 use Rattle.std.proofs.lemmas.Bool.{and_parts, not-true}
 use Rattle.std.proofs.lemmas.Bool.Decides.{nat_tests}
 use Rattle.std.proofs.lemmas.List.{append_assoc}
-use Rattle.tw_types.specs.declared.team.Team.{Team}
-use Rattle.tw_types.specs.declared.message.Decision.{Decision}
-use Rattle.tw_types.specs.declared.message.Kept.{Kept}
-use Rattle.tw_types.specs.declared.message.Member.{Member}
-use Rattle.tw_types.specs.declared.outputs.How.{How}
-use Rattle.tw_types.specs.declared.outputs.Pass.{Pass}
-use Rattle.tw_types.specs.declared.step.Step.{Step}
+use Rattle.tw_machine.specs.Types.{Team, Decision, Kept, Member, How, Pass, Step}
 use Rattle.tw_types.specs.Beliefs.{Log}
 use Rattle.tw_types.specs.Deliveries.{fulfils, positions_from, passes_at, may_pass, run, how_passed, pass_of, passes, run_passed, early_at, may_go_early, early_positions, as_early, weaks}
 use Rattle.tw_types.specs.Items.{In}
@@ -25,7 +19,7 @@ use Rattle.tw_types.specs.declared.outputs.How.TheVariants.{Now, Earlier, Late}
 use Rattle.tw_machine.specs.Delivering.{delivered_at, earlies_told, all_told}
 use Rattle.tw_machine.specs.History.{Line, line_item, lines_on}
 use Rattle.tw_machine.specs.Run.{AtPass, AtEarly, AtWait, Delivered}
-use Rattle.tw_machine.proofs.Tables.{all_joined}
+use Rattle.tw_types.proofs.Lists.{all_joined}
 use Rattle.safety_laws.specs.Beginnings.{unmarked}
 use Rattle.safety_laws.specs.Delivered.{PassedAbove, PassesAscend}
 use Rattle.safety_laws.proofs.Lists.{each_weaker, each_from, of_filter_map, in_range}

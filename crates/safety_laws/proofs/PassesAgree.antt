@@ -1,12 +1,8 @@
 -- Where two rows have one group, what their processes passed so far agrees at each position.
 use Rattle.std.proofs.Common.{◌≡◌, ◌↔◌, refl, sym, ap, subst, ◌∙◌, ℕ, ◌≤◌, ◌<◌, true, List, [], ◌∷◌, ◌++◌, map, length, Option, Some, None, slice_get, arith}
 use Rattle.std.proofs.lemmas.Option.{slice_get_within}
-use Rattle.tw_types.specs.declared.message.Decision.{Decision}
-use Rattle.tw_types.specs.declared.message.Kept.{Kept}
-use Rattle.tw_types.specs.declared.outputs.How.{How}
+use Rattle.tw_machine.specs.Types.{Decision, Kept, How, Step, Team}
 use Rattle.tw_types.specs.declared.outputs.How.TheVariants.{Late}
-use Rattle.tw_types.specs.declared.step.Step.{Step}
-use Rattle.tw_types.specs.declared.team.Team.{Team}
 use Rattle.tw_types.specs.Decisions.{or_none}
 use Rattle.tw_types.specs.Deliveries.{how_passed}
 use Rattle.tw_types.specs.Items.{In}

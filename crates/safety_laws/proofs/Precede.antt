@@ -1,9 +1,7 @@
 -- Supports precede the promise that ends them.
 use Rattle.std.proofs.Common.{◌≡◌, refl, sym, ap, subst, ◌∙◌, inl, inr, ◌⊎◌, ◌+◌, ◌≤◌, ◌<◌, true, false, List, ◌∷◌, Some, None, arith}
 use Rattle.std.specs.List.{AllByRecursion}
-use Rattle.tw_types.specs.declared.team.Team.{Team}
-use Rattle.tw_types.specs.declared.message.Report.{Report}
-use Rattle.tw_types.specs.declared.step.Step.{Step}
+use Rattle.tw_machine.specs.Types.{Team, Report, Step}
 use Rattle.tw_types.specs.Beliefs.{Belief, Informed, Blank, is_informed, last_of, view_decision}
 use Rattle.tw_types.specs.Decisions.{or_none}
 use Rattle.tw_types.specs.Reports.{is_by_informed, kind_of}

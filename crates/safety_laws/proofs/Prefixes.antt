@@ -5,9 +5,7 @@ use Rattle.std.specs.Option.{option_map_or}
 use Rattle.std.proofs.lemmas.Bool.Decides.{nat_tests}
 use Rattle.std.proofs.lemmas.Bool.{cases_lt}
 use Rattle.std.proofs.lemmas.List.{append_assoc, append-nil, length-append, take-append-drop, take-append-le}
-use Rattle.tw_types.specs.declared.team.Team.{Team}
-use Rattle.tw_types.specs.declared.message.Decision.{Decision}
-use Rattle.tw_types.specs.declared.message.Kept.{Kept}
+use Rattle.tw_machine.specs.Types.{Team, Decision, Kept}
 use Rattle.tw_types.specs.Items.{In}
 use Rattle.tw_machine.specs.History.{Promised, Make, list_of}
 use Rattle.safety_laws.specs.Beginnings.{IsBeginning, list_at}

@@ -2,13 +2,7 @@
 use Rattle.std.proofs.Common.{◌≡◌, refl, sym, ap, subst, ◌∙◌, inl, inr, ℕ, ◌+◌, ◌/◌, ◌≤◌, ◌<◌, Bool, true, List, [], ◌∷◌, Option, Some, None, is_some, count_by, arith}
 use Rattle.std.specs.List.{AllByRecursion}
 use Rattle.std.proofs.lemmas.Bool.Decides.{nat_tests}
-use Rattle.tw_types.specs.declared.team.Team.{Team}
-use Rattle.tw_types.specs.declared.message.Decision.{Decision}
-use Rattle.tw_types.specs.declared.message.Member.{Member}
-use Rattle.tw_types.specs.declared.message.Report.{Report}
-use Rattle.tw_types.specs.declared.message.Seat.{Seat}
-use Rattle.tw_types.specs.declared.message.Support.{Support}
-use Rattle.tw_types.specs.declared.step.Step.{Step}
+use Rattle.tw_machine.specs.Types.{Team, Decision, Member, Report, Seat, Support, Step}
 use Rattle.tw_types.specs.Decisions.{or_none}
 use Rattle.tw_types.specs.Reports.{is_by_informed}
 use Rattle.tw_machine.specs.History.{Promised, Make}

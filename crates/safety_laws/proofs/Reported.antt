@@ -1,12 +1,8 @@
 -- Below its promise a process reports the same, and only informed ones promise.
 use Rattle.std.proofs.Common.{◌≡◌, refl, sym, ap, subst, ◌∙◌, Bool, true, false, ◌||◌, ◌<◌, List, ◌∷◌, Some}
 use Rattle.std.specs.List.{AllByRecursion}
-use Rattle.tw_types.specs.declared.team.Team.{Team}
-use Rattle.tw_types.specs.declared.message.Member.{Member}
-use Rattle.tw_types.specs.declared.message.Report.{Report}
-use Rattle.tw_types.specs.declared.outputs.Mode.{Mode}
+use Rattle.tw_machine.specs.Types.{Team, Member, Report, Mode, Step}
 use Rattle.tw_types.specs.declared.outputs.Mode.TheVariants as modes
-use Rattle.tw_types.specs.declared.step.Step.{Step}
 use Rattle.tw_types.specs.Beliefs.{Belief, Informed, Blank, is_informed, view_decision}
 use Rattle.tw_types.specs.Decisions.{or_none, has_seat}
 use Rattle.tw_types.specs.Process.{Process, started}

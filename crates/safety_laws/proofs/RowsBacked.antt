@@ -4,14 +4,9 @@ use Rattle.std.specs.List.{AllByRecursion}
 use Rattle.std.proofs.lemmas.Bool.Decides.{nat_tests}
 use Rattle.std.proofs.lemmas.List.{length-append}
 use Rattle.std.proofs.lemmas.Option.{slice_get_within}
-use Rattle.tw_types.specs.declared.message.Atom.{Atom}
+use Rattle.tw_machine.specs.Types.{Atom, Member, Seat, Support, Step, Team}
 use Rattle.tw_types.specs.declared.message.Atom.TheVariants.{Strong, Strict}
-use Rattle.tw_types.specs.declared.message.Member.{Member}
-use Rattle.tw_types.specs.declared.message.Seat.{Seat}
-use Rattle.tw_types.specs.declared.message.Support.{Support}
 use Rattle.tw_types.specs.declared.outputs.How.TheVariants.{Late}
-use Rattle.tw_types.specs.declared.step.Step.{Step}
-use Rattle.tw_types.specs.declared.team.Team.{Team}
 use Rattle.tw_types.specs.Deliveries.{reaches, fulfils}
 use Rattle.tw_types.specs.Items.{In}
 use Rattle.tw_types.specs.Row.{Row, Pass, Update}

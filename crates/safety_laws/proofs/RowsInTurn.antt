@@ -4,8 +4,7 @@ use Rattle.std.proofs.lemmas.List.{reverse-append}
 use Rattle.std.proofs.lemmas.List.Concat.{flat_map-cons}
 use Rattle.std.proofs.lemmas.Option.{same_Some}
 use Rattle.std.specs.List.{AllByRecursion, flat_map}
-use Rattle.tw_types.specs.declared.step.Step.{Step}
-use Rattle.tw_types.specs.declared.team.Team.{Team}
+use Rattle.tw_machine.specs.Types.{Step, Team}
 use Rattle.tw_types.specs.Items.{In}
 use Rattle.tw_types.specs.Row.{Row}
 use Rattle.tw_types.specs.Team.{IsSound}

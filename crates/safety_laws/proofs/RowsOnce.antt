@@ -4,11 +4,8 @@ use Rattle.std.proofs.Common.{◌≡◌, refl, sym, ap, subst, ◌∙◌, inl, i
 use Rattle.std.specs.List.{AllByRecursion}
 use Rattle.std.proofs.lemmas.Bool.{cases_lt}
 use Rattle.std.proofs.lemmas.Option.{same_Some}
-use Rattle.tw_types.specs.declared.message.Kept.{Kept}
-use Rattle.tw_types.specs.declared.message.Member.{Member}
+use Rattle.tw_machine.specs.Types.{Kept, Member, Step, Team}
 use Rattle.tw_types.specs.declared.outputs.How.TheVariants.{Earlier}
-use Rattle.tw_types.specs.declared.step.Step.{Step}
-use Rattle.tw_types.specs.declared.team.Team.{Team}
 use Rattle.tw_types.specs.Items.{In}
 use Rattle.tw_types.specs.Printed.{update_printed}
 use Rattle.tw_types.specs.Row.{Row, Pass, Update}

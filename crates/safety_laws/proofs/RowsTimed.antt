@@ -5,16 +5,9 @@ use Rattle.std.specs.List.{AllByRecursion}
 use Rattle.std.proofs.lemmas.Bool.{and_parts, false_from_ne_true}
 use Rattle.std.proofs.lemmas.Bool.Decides.{nat_tests}
 use Rattle.std.proofs.lemmas.Option.{same_Some}
-use Rattle.tw_types.specs.declared.message.Decision.{Decision}
-use Rattle.tw_types.specs.declared.message.Kept.{Kept}
-use Rattle.tw_types.specs.declared.message.Member.{Member}
-use Rattle.tw_types.specs.declared.message.Order.{Order}
+use Rattle.tw_machine.specs.Types.{Decision, Kept, Member, Order, TimeMark, How, Step, Team}
 use Rattle.tw_types.specs.declared.message.Order.TheVariants.{Unordered, Total, Timed}
-use Rattle.tw_types.specs.declared.message.TimeMark.{TimeMark}
-use Rattle.tw_types.specs.declared.outputs.How.{How}
 use Rattle.tw_types.specs.declared.outputs.How.TheVariants.{Now, Earlier, Late}
-use Rattle.tw_types.specs.declared.step.Step.{Step}
-use Rattle.tw_types.specs.declared.team.Team.{Team}
 use Rattle.tw_types.specs.Appending.{is_above, moves_mark}
 use Rattle.tw_types.specs.Appending as entries
 use Rattle.tw_types.specs.Beliefs.{is_informed, view_decision}

@@ -1,10 +1,7 @@
 -- What is added to a list in a group is of members of that group.
 use Rattle.std.proofs.Common.{◌≡◌, sym, subst, true, List, ◌∷◌, Option}
 use Rattle.std.specs.List.{AllByRecursion}
-use Rattle.tw_types.specs.declared.team.Team.{Team}
-use Rattle.tw_types.specs.declared.message.Decision.{Decision}
-use Rattle.tw_types.specs.declared.message.Kept.{Kept}
-use Rattle.tw_types.specs.declared.step.Step.{Step}
+use Rattle.tw_machine.specs.Types.{Team, Decision, Kept, Step}
 use Rattle.tw_types.specs.Decisions.{or_none, has_seat}
 use Rattle.tw_types.specs.Updates.{sender}
 use Rattle.tw_machine.specs.History.{Make, make_item}

@@ -1,20 +1,9 @@
 -- In one step, what is answered to a send is what is noted as sent, and that is one update at most, stamped with the step's reading.
 use Rattle.std.proofs.Common.{◌≡◌, ◌≢◌, refl, ap, ◌∙◌, ℕ, Bool, true, false, cond, unwrap_or, List, [], ◌∷◌, ◌++◌, length, Option, Some, None, Result, Ok, Err}
 use Rattle.tw_num.specs.declared.moment.Moment.{Moment}
-use Rattle.tw_types.specs.declared.team.Team.{Team}
-use Rattle.tw_types.specs.declared.datagram.Head.{Head}
-use Rattle.tw_types.specs.declared.datagram.Body.{Body}
+use Rattle.tw_machine.specs.Types.{Team, Head, Body, Datagram, Why, Want, Kept, Order, Atom, Decision, Reason, RowAnswer}
 use Rattle.tw_types.specs.declared.datagram.Body.TheVariants as bodies
-use Rattle.tw_types.specs.declared.datagram.Datagram.{Datagram}
-use Rattle.tw_types.specs.declared.datagram.Why.{Why}
-use Rattle.tw_types.specs.declared.datagram.Want.{Want}
-use Rattle.tw_types.specs.declared.message.Kept.{Kept}
-use Rattle.tw_types.specs.declared.message.Order.{Order}
-use Rattle.tw_types.specs.declared.message.Atom.{Atom}
-use Rattle.tw_types.specs.declared.message.Decision.{Decision}
-use Rattle.tw_types.specs.declared.answer.Reason.{Reason}
 use Rattle.tw_types.specs.declared.answer.Reason.TheVariants as reasons
-use Rattle.tw_types.specs.declared.row.RowAnswer.{RowAnswer}
 use Rattle.tw_types.specs.Ballots.{wants}
 use Rattle.tw_types.specs.Beliefs.{Belief, Informed, Blank, view_decision}
 use Rattle.tw_types.specs.Decisions.{or_none}

@@ -7,15 +7,8 @@ use Rattle.std.specs.List.{AllByRecursion, list_all, list_any}
 use Rattle.std.specs.Option.{option_map}
 use Rattle.tw_types.specs.declared.message.Order.TheVariants as orders
 use Rattle.tw_types.specs.declared.message.Atom.TheVariants as atoms
-use Rattle.tw_types.specs.declared.message.UpdateId.{UpdateId}
-use Rattle.tw_types.specs.declared.message.Entry.{Entry}
-use Rattle.tw_types.specs.declared.message.Kept.{Kept}
-use Rattle.tw_types.specs.declared.message.Decision.{Decision}
-use Rattle.tw_types.specs.declared.message.Seat.{Seat}
-use Rattle.tw_types.specs.declared.message.Support.{Support}
-use Rattle.tw_types.specs.declared.step.Act.{Act}
+use Rattle.tw_machine.specs.Types.{UpdateId, Entry, Kept, Decision, Seat, Support, Act, Step}
 use Rattle.tw_types.specs.declared.step.Act.TheVariants.{Tick, Recv, Send}
-use Rattle.tw_types.specs.declared.step.Step.{Step}
 use Rattle.tw_types.specs.Appending.{appended_list, appended_kept}
 use Rattle.tw_types.specs.Beliefs.{log_length}
 use Rattle.tw_types.specs.Decisions.{or_none, has_seat}

@@ -4,9 +4,7 @@ use Rattle.std.specs.List.{AllByRecursion}
 use Rattle.std.proofs.lemmas.Bool.{cases_lt}
 use Rattle.std.proofs.lemmas.List.{append-nil}
 use Rattle.std.proofs.lemmas.Option.{same_Some}
-use Rattle.tw_types.specs.declared.team.Team.{Team}
-use Rattle.tw_types.specs.declared.message.Decision.{Decision}
-use Rattle.tw_types.specs.declared.message.Kept.{Kept}
+use Rattle.tw_machine.specs.Types.{Team, Decision, Kept}
 use Rattle.tw_types.specs.Items.{In}
 use Rattle.tw_machine.specs.History.{Promised, Make, list_of}
 use Rattle.safety_laws.specs.Acknowledged.{IsSilent, AddsLast, InNone, InOne}

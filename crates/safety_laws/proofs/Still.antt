@@ -1,10 +1,6 @@
 -- Below its promise a record says the same.
 use Rattle.std.proofs.Common.{◌≡◌, sym, ap, subst, ◌∙◌, ℕ, suc, ◌≤◌, ◌<◌, List, ◌∷◌, arith}
-use Rattle.tw_types.specs.declared.team.Team.{Team}
-use Rattle.tw_types.specs.declared.message.Member.{Member}
-use Rattle.tw_types.specs.declared.message.Report.{Report}
-use Rattle.tw_types.specs.declared.outputs.Mode.{Mode}
-use Rattle.tw_types.specs.declared.step.Step.{Step}
+use Rattle.tw_machine.specs.Types.{Team, Member, Report, Mode, Step}
 use Rattle.tw_types.specs.Beliefs.{Belief, view_decision, log_length}
 use Rattle.tw_types.specs.Decisions.{or_none}
 use Rattle.tw_types.specs.Process.{Process, started}

@@ -5,14 +5,9 @@ use Rattle.std.specs.List.{list_all}
 use Rattle.std.proofs.lemmas.Bool.Decides.{nat_tests}
 use Rattle.std.proofs.lemmas.List.{length-map}
 use Rattle.std.proofs.lemmas.List.Sums.{sum_by-cons}
-use Rattle.tw_types.specs.declared.message.Atom.{Atom}
+use Rattle.tw_machine.specs.Types.{Atom, Kept, Seat, Support, Step, Team}
 use Rattle.tw_types.specs.declared.message.Atom.TheVariants.{Weak, Strong, Strict}
-use Rattle.tw_types.specs.declared.message.Kept.{Kept}
-use Rattle.tw_types.specs.declared.message.Seat.{Seat}
-use Rattle.tw_types.specs.declared.message.Support.{Support}
 use Rattle.tw_types.specs.declared.outputs.How.TheVariants.{Late}
-use Rattle.tw_types.specs.declared.step.Step.{Step}
-use Rattle.tw_types.specs.declared.team.Team.{Team}
 use Rattle.tw_types.specs.Deliveries.{fulfils, reaches}
 use Rattle.tw_types.specs.Items.{In}
 use Rattle.tw_types.specs.Printed.{update_printed}

@@ -3,13 +3,7 @@ use Rattle.std.proofs.Common.{◌≡◌, ◌≢◌, refl, sym, subst, ◌∙◌,
 use Rattle.std.specs.List.{AllByRecursion}
 use Rattle.std.specs.Option.{option_map, option_and_then}
 use Rattle.std.proofs.lemmas.Option.{same_Some}
-use Rattle.tw_types.specs.declared.team.Team.{Team}
-use Rattle.tw_types.specs.declared.datagram.Datagram.{Datagram}
-use Rattle.tw_types.specs.declared.datagram.Head.{Head}
-use Rattle.tw_types.specs.declared.datagram.Body.{Body}
-use Rattle.tw_types.specs.declared.datagram.Echo.{Echo}
-use Rattle.tw_types.specs.declared.answer.Reason.{Reason}
-use Rattle.tw_types.specs.declared.step.Step.{Step}
+use Rattle.tw_machine.specs.Types.{Team, Datagram, Head, Body, Echo, Reason, Step}
 use Rattle.tw_types.specs.Trips.{trip, trip_of}
 use Rattle.tw_types.specs.Process.{Identity, Timing, Process}
 use Rattle.tw_num.specs.declared.interval.Interval.{Interval}

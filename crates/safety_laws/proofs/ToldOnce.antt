@@ -4,11 +4,8 @@ use Rattle.std.specs.Prelude.{◌&&◌}
 use Rattle.std.specs.List.{AllByRecursion, range_with_len, cons_option}
 use Rattle.std.specs.Option.{option_map, option_map_or}
 use Rattle.std.proofs.lemmas.List.{append_assoc}
-use Rattle.tw_types.specs.declared.team.Team.{Team}
-use Rattle.tw_types.specs.declared.message.Decision.{Decision}
-use Rattle.tw_types.specs.declared.message.Kept.{Kept}
+use Rattle.tw_machine.specs.Types.{Team, Decision, Kept, Pass}
 use Rattle.tw_types.specs.declared.outputs.How.TheVariants.{Now, Earlier, Late}
-use Rattle.tw_types.specs.declared.outputs.Pass.{Pass}
 use Rattle.tw_types.specs.Beliefs.{Log, log_length}
 use Rattle.tw_types.specs.Deliveries.{may_pass, run, how_passed, passes, run_passed, early_at, may_go_early, as_early, weaks}
 use Rattle.tw_types.specs.Items.{In}

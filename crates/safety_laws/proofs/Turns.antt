@@ -1,13 +1,7 @@
 -- What holds of each first decision, and passes from a decision to the next one, holds of each make.
 use Rattle.std.proofs.Common.{◌≡◌, refl, sym, ap, subst, ◌∙◌, inl, inr, ℕ, ◌≤◌, List, [], ◌∷◌, map, arith}
 use Rattle.std.specs.List.{AllByRecursion}
-use Rattle.tw_types.specs.declared.team.Team.{Team}
-use Rattle.tw_types.specs.declared.message.Entry.{Entry}
-use Rattle.tw_types.specs.declared.message.Decision.{Decision}
-use Rattle.tw_types.specs.declared.message.Member.{Member}
-use Rattle.tw_types.specs.declared.message.Report.{Report}
-use Rattle.tw_types.specs.declared.message.Seat.{Seat}
-use Rattle.tw_types.specs.declared.message.Support.{Support}
+use Rattle.tw_machine.specs.Types.{Team, Entry, Decision, Member, Report, Seat, Support}
 use Rattle.tw_types.specs.Appending.{raised}
 use Rattle.tw_types.specs.Turns.{supported}
 use Rattle.tw_machine.specs.History.{Promised, Make}

@@ -3,25 +3,11 @@ use Rattle.std.proofs.Common.{◌≡◌, ◌≢◌, refl, sym, ap, subst, ◌∙
 use Rattle.std.specs.Option.{option_map}
 use Rattle.std.proofs.lemmas.Bool.Decides.{nat_tests}
 use Rattle.tw_num.specs.declared.moment.Moment.{Moment}
-use Rattle.tw_types.specs.declared.team.Team.{Team}
+use Rattle.tw_machine.specs.Types.{Team, Reason, Ballot, Head, Why, Body, Datagram, Kept, Order, Atom, Want, Decision, Member, Mode, Step}
 use Rattle.tw_types.specs.Team.{IsSound}
-use Rattle.tw_types.specs.declared.answer.Reason.{Reason}
 use Rattle.tw_types.specs.declared.answer.Reason.TheVariants as reasons
-use Rattle.tw_types.specs.declared.ballot.Ballot.{Ballot}
-use Rattle.tw_types.specs.declared.datagram.Head.{Head}
-use Rattle.tw_types.specs.declared.datagram.Why.{Why}
-use Rattle.tw_types.specs.declared.datagram.Body.{Body}
 use Rattle.tw_types.specs.declared.datagram.Body.TheVariants as bodies
-use Rattle.tw_types.specs.declared.datagram.Datagram.{Datagram}
-use Rattle.tw_types.specs.declared.message.Kept.{Kept}
-use Rattle.tw_types.specs.declared.message.Order.{Order}
-use Rattle.tw_types.specs.declared.message.Atom.{Atom}
-use Rattle.tw_types.specs.declared.datagram.Want.{Want}
-use Rattle.tw_types.specs.declared.message.Decision.{Decision}
-use Rattle.tw_types.specs.declared.message.Member.{Member}
-use Rattle.tw_types.specs.declared.outputs.Mode.{Mode}
 use Rattle.tw_types.specs.declared.outputs.Mode.TheVariants as modes
-use Rattle.tw_types.specs.declared.step.Step.{Step}
 use Rattle.tw_types.specs.Ballots.{joined, wants, is_over}
 use Rattle.tw_types.specs.Beliefs.{Log, is_informed, last_of, view_decision}
 use Rattle.tw_types.specs.Elections.{why_begun, own_promise}

@@ -3,9 +3,7 @@ use Rattle.std.proofs.Common.{◌≡◌, refl, sym, subst, ℕ, ◌≤◌, Bool,
 use Rattle.std.specs.Prelude.{nat_le}
 use Rattle.std.specs.List.{AllByRecursion}
 use Rattle.std.proofs.lemmas.Bool.Decides.{nat_tests}
-use Rattle.tw_types.specs.declared.team.Team.{Team}
-use Rattle.tw_types.specs.declared.message.Decision.{Decision}
-use Rattle.tw_types.specs.declared.step.Step.{Step}
+use Rattle.tw_machine.specs.Types.{Team, Decision, Step}
 use Rattle.tw_types.specs.Beliefs.{Belief, Informed, Blank, last_of}
 use Rattle.tw_types.specs.Flag.{is_up, is_supported}
 use Rattle.tw_types.specs.Votes.{Vote}

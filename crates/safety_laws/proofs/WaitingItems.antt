@@ -3,17 +3,14 @@ use Rattle.std.proofs.Common.{◌≡◌, refl, subst, inl, inr, ℕ, Bool, true,
 use Rattle.std.specs.List.{AllByRecursion, cons_option}
 use Rattle.std.specs.Option.{option_map}
 use Rattle.std.proofs.lemmas.Option.{same_Some}
-use Rattle.tw_types.specs.declared.message.UpdateId.{UpdateId}
-use Rattle.tw_types.specs.declared.message.Entry.{Entry}
-use Rattle.tw_types.specs.declared.message.Kept.{Kept}
-use Rattle.tw_types.specs.declared.message.Decision.{Decision}
+use Rattle.tw_machine.specs.Types.{UpdateId, Entry, Kept, Decision}
 use Rattle.tw_types.specs.Items.{In}
 use Rattle.tw_types.specs.Logs.{entry_joined}
 use Rattle.tw_types.specs.Updates.{is_same_id, is_named, find_update, waits_before, with_pending, stays_pending}
 use Rattle.tw_types.specs.Waiting.{Held, Waiting, held_payloads, payloads_of, payloads_for, ids_from, each_once, with_payload, holding, released, settled_by}
-use Rattle.tw_types.proofs.Lists.{all_parted}
+use Rattle.tw_types.proofs.Lists.{all_parted, all_joined}
 use Rattle.tw_machine.specs.Entering.{is_overtaken, let_go_below}
-use Rattle.tw_machine.proofs.Tables.{all_joined, all_push}
+use Rattle.tw_machine.proofs.Tables.{all_push}
 use Rattle.group_maker.proofs.Ranges.{all_kept}
 use Rattle.safety_laws.proofs.Lists.{of_each, found_in}
 

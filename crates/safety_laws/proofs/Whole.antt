@@ -4,18 +4,8 @@ use Rattle.std.specs.List.{AllByRecursion, range_with_len}
 use Rattle.std.specs.Option.{option_map_or}
 use Rattle.std.proofs.lemmas.Bool.Decides.{nat_tests}
 use Rattle.std.proofs.lemmas.List.{length-map, append-nil}
-use Rattle.tw_types.specs.declared.team.Team.{Team}
-use Rattle.tw_types.specs.declared.ballot.Ballot.{Ballot}
-use Rattle.tw_types.specs.declared.message.Decision.{Decision}
-use Rattle.tw_types.specs.declared.message.Kept.{Kept}
-use Rattle.tw_types.specs.declared.message.Entry.{Entry}
-use Rattle.tw_types.specs.declared.message.Kind.{Kind}
+use Rattle.tw_machine.specs.Types.{Team, Ballot, Decision, Kept, Entry, Kind, Member, Report, Seat, Support, Step}
 use Rattle.tw_types.specs.declared.message.Kind.TheVariants as kinds
-use Rattle.tw_types.specs.declared.message.Member.{Member}
-use Rattle.tw_types.specs.declared.message.Report.{Report}
-use Rattle.tw_types.specs.declared.message.Seat.{Seat}
-use Rattle.tw_types.specs.declared.message.Support.{Support}
-use Rattle.tw_types.specs.declared.step.Step.{Step}
 use Rattle.tw_types.specs.Decisions.{or_none, no_decision, decision_length, is_seat_of, has_seat}
 use Rattle.tw_types.specs.Groups.{consistent, seated, next_of, seat_of, first_decision, group_made}
 use Rattle.tw_types.specs.Items.{In}

@@ -8,13 +8,7 @@ use Rattle.std.proofs.lemmas.List.{map-append, reverse-append}
 use Rattle.std.proofs.lemmas.List.Elements.{filter-append}
 use Rattle.std.proofs.lemmas.List.Folds.{find-append}
 use Rattle.std.proofs.lemmas.List.Sums.{sum_by-append, sum_by-cons}
-use Rattle.tw_types.specs.declared.team.Team.{Team}
-use Rattle.tw_types.specs.declared.message.Entry.{Entry}
-use Rattle.tw_types.specs.declared.message.Kept.{Kept}
-use Rattle.tw_types.specs.declared.message.Member.{Member}
-use Rattle.tw_types.specs.declared.message.Seat.{Seat}
-use Rattle.tw_types.specs.declared.message.TimeMark.{TimeMark}
-use Rattle.tw_types.specs.declared.message.Decision.{Decision}
+use Rattle.tw_machine.specs.Types.{Team, Entry, Kept, Member, Seat, TimeMark, Decision}
 use Rattle.tw_types.specs.Appending.{count_of, is_candidate, mark_of, is_above, moves_mark, mark_after, added_entry, added_kept, come_in_turn}
 use Rattle.tw_types.specs.Decisions.{is_same_member, is_seat_of}
 use Rattle.tw_types.specs.Updates.{sender, is_timed}

@@ -2,12 +2,7 @@
 use Rattle.std.proofs.Common.{◌≡◌, refl, sym, ap, subst, ◌∙◌, ℕ, ◌+◌, ◌-◌, ◌≤◌, max, nat_eq, Bool, true, false, cond, ◌&&◌, List, [], ◌∷◌, ◌++◌, map, length, filter, drop, is_some, Some, arith, length-append}
 use Rattle.std.specs.List.{AllByRecursion, list_all, range_with_len}
 use Rattle.std.proofs.lemmas.List.{length-map, map-append, drop-append-le, drop-map, drop-drop}
-use Rattle.tw_types.specs.declared.team.Team.{Team}
-use Rattle.tw_types.specs.declared.message.Entry.{Entry}
-use Rattle.tw_types.specs.declared.message.Kept.{Kept}
-use Rattle.tw_types.specs.declared.message.Seat.{Seat}
-use Rattle.tw_types.specs.declared.message.Support.{Support}
-use Rattle.tw_types.specs.declared.message.Decision.{Decision}
+use Rattle.tw_machine.specs.Types.{Team, Entry, Kept, Seat, Support, Decision}
 use Rattle.tw_types.specs.Appending.{count_of, mark_after, added_entries, added_kept, come_in_turn, has_room, lists_of, longest, may_append, appended_kept, raised, with_appended}
 use Rattle.tw_types.specs.Decisions.{decision_length}
 use Rattle.tw_types.specs.Flag.{is_up}

@@ -2,9 +2,7 @@
 use Rattle.std.proofs.Common.{◌≡◌, ap, subst, ℕ, ◌+◌, ◌≤◌, true, List, arith}
 use Rattle.std.specs.List.{AllByRecursion}
 use Rattle.std.proofs.lemmas.Bool.Decides.{nat_tests}
-use Rattle.tw_types.specs.declared.team.Team.{Team}
-use Rattle.tw_types.specs.declared.message.Report.{Report}
-use Rattle.tw_types.specs.declared.step.Step.{Step}
+use Rattle.tw_machine.specs.Types.{Team, Report, Step}
 use Rattle.tw_types.specs.Promises.{is_in_window}
 use Rattle.tw_types.specs.Slots.{slot_of}
 use Rattle.tw_machine.specs.History.{promise_item}

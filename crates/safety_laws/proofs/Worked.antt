@@ -3,12 +3,8 @@
 -- started. So their premises are met.
 use Rattle.std.proofs.Common.{◌≡◌, refl, ℕ, List, [], ◌∷◌, map, Option, Some, None}
 use Rattle.std.specs.Option.{option_map}
-use Rattle.tw_types.specs.declared.message.Report.{Report}
-use Rattle.tw_types.specs.declared.message.Seat.{Seat}
-use Rattle.tw_types.specs.declared.message.Support.{Support}
-use Rattle.tw_types.specs.declared.step.Act.{Act}
+use Rattle.tw_machine.specs.Types.{Report, Seat, Support, Act, Step}
 use Rattle.tw_types.specs.declared.step.Act.TheVariants.{First, Tick, Recv, Reference, Look}
-use Rattle.tw_types.specs.declared.step.Step.{Step}
 use Rattle.tw_types.specs.Decisions.{or_none}
 use Rattle.tw_types.specs.Deliveries.{run_passed, earlies_marked}
 use Rattle.tw_types.specs.Examples.{team_a}

@@ -1,8 +1,7 @@
 -- What a majority acknowledged, and the last group in which something was appended.
 use Rattle.std.specs.Prelude.{ℕ, ◌≡◌, ◌≢◌, ◌≤◌, ◌<◌, nat_le, Bool, false, List, [], length, Option, Some, None}
 use Rattle.std.specs.List.{AllByRecursion}
-use Rattle.tw_types.specs.declared.message.Seat.{Seat}
-use Rattle.tw_types.specs.declared.message.Support.{Support}
+use Rattle.tw_machine.specs.Types.{Seat, Support}
 use Rattle.tw_types.specs.Items.{In}
 use Rattle.tw_machine.specs.History.{Make}
 

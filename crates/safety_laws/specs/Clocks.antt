@@ -2,13 +2,12 @@
 use Rattle.std.specs.Prelude.{ℕ, ◌-◌, ◌≤◌, ◌≡◌, nat_le, true, List, [], ◌∷◌, Option, Some, Ok, IfSome}
 use Rattle.std.specs.List.{list_all}
 use Rattle.tw_types.specs.Numbered.{numbered}
-use Rattle.tw_types.specs.declared.team.Team.{Team}
+use Rattle.tw_machine.specs.Types.{Team, Step}
 use Rattle.tw_num.specs.declared.interval.Interval.{Interval}
 use Rattle.tw_num.specs.declared.moment.Moment.{Moment}
 use Rattle.tw_num.specs.Interval.{Holds}
 use Rattle.tw_num.specs.Clock.{interval_at}
 use Rattle.tw_num.specs.Rate.{Rate}
-use Rattle.tw_types.specs.declared.step.Step.{Step}
 use Rattle.tw_types.specs.declared.step.Act.TheVariants.{Recv}
 use Rattle.tw_types.specs.Process.{Process}
 use Rattle.tw_types.specs.Row.{Row}

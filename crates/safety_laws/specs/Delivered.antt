@@ -1,11 +1,8 @@
 -- What was delivered, against the lists of the decisions by which it was.
 use Rattle.std.specs.Prelude.{ℕ, ◌≡◌, ◌≢◌, ◌≤◌, ◌<◌, true, List, [], ◌∷◌, slice_get, Some}
 use Rattle.std.specs.List.{AllByRecursion}
-use Rattle.tw_types.specs.declared.team.Team.{Team}
-use Rattle.tw_types.specs.declared.message.Kept.{Kept}
-use Rattle.tw_types.specs.declared.outputs.How.{How}
+use Rattle.tw_machine.specs.Types.{Team, Kept, How, Step}
 use Rattle.tw_types.specs.declared.outputs.How.TheVariants.{Late}
-use Rattle.tw_types.specs.declared.step.Step.{Step}
 use Rattle.tw_types.specs.Beliefs.{is_informed}
 use Rattle.tw_types.specs.Deliveries.{fulfils, how_passed}
 use Rattle.tw_types.specs.Items.{In}

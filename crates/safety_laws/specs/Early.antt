@@ -1,10 +1,7 @@
 -- What was delivered early, and that nothing is delivered twice.
 use Rattle.std.specs.Prelude.{ℕ, ◌≡◌, ◌≢◌, ◌≤◌, ◌⊎◌, Bool, true, false, List, [], ◌∷◌, ◌++◌}
 use Rattle.std.specs.List.{AllByRecursion}
-use Rattle.tw_types.specs.declared.team.Team.{Team}
-use Rattle.tw_types.specs.declared.message.Kept.{Kept}
-use Rattle.tw_types.specs.declared.message.Member.{Member}
-use Rattle.tw_types.specs.declared.message.UpdateId.{UpdateId}
+use Rattle.tw_machine.specs.Types.{Team, Kept, Member, UpdateId}
 use Rattle.tw_types.specs.declared.outputs.How.TheVariants.{Earlier}
 use Rattle.tw_types.specs.Beliefs.{is_informed, last_of}
 use Rattle.tw_types.specs.Decisions.{or_none, has_seat}

@@ -1,10 +1,7 @@
 -- All that is known of promises, makes and ups, in one law.
 use Rattle.std.specs.Prelude.{ℕ, ◌+◌, ◌/◌, ◌≡◌, ◌≤◌, ◌<◌, List, Some, is_some, count_by}
 use Rattle.std.specs.List.{AllByRecursion}
-use Rattle.tw_types.specs.declared.team.Team.{Team}
-use Rattle.tw_types.specs.declared.message.Decision.{Decision}
-use Rattle.tw_types.specs.declared.message.Seat.{Seat}
-use Rattle.tw_types.specs.declared.step.Step.{Step}
+use Rattle.tw_machine.specs.Types.{Team, Decision, Seat, Step}
 use Rattle.tw_types.specs.Process.{Process}
 use Rattle.tw_machine.specs.History.{Make}
 use Rattle.safety_laws.specs.Effects.{Written}

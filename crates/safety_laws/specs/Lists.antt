@@ -1,12 +1,7 @@
 -- The list of updates of each made decision, whole, and what the decision says of it.
 use Rattle.std.specs.Prelude.{ℕ, ◌+◌, ◌≡◌, ◌≤◌, true, List, [], ◌∷◌, ◌++◌, map, length, drop, filter, Some}
 use Rattle.std.specs.List.{AllByRecursion, range_with_len}
-use Rattle.tw_types.specs.declared.message.Entry.{Entry}
-use Rattle.tw_types.specs.declared.message.Kept.{Kept}
-use Rattle.tw_types.specs.declared.message.Member.{Member}
-use Rattle.tw_types.specs.declared.message.Seat.{Seat}
-use Rattle.tw_types.specs.declared.message.Support.{Support}
-use Rattle.tw_types.specs.declared.message.TimeMark.{TimeMark}
+use Rattle.tw_machine.specs.Types.{Entry, Kept, Member, Seat, Support, TimeMark}
 use Rattle.tw_types.specs.Appending.{mark_of, is_above, moves_mark, mark_after}
 use Rattle.tw_types.specs.Decisions.{decision_length, is_same_member}
 use Rattle.tw_types.specs.Updates.{sender}

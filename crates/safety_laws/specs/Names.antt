@@ -1,8 +1,7 @@
 -- What was written down of a process, by name: its lives ascend, and with them its incarnations.
 use Rattle.std.specs.Prelude.{ℕ, ◌≡◌, ◌≤◌, ◌<◌, true, List}
 use Rattle.std.specs.List.{AllByRecursion}
-use Rattle.tw_types.specs.declared.message.Member.{Member}
-use Rattle.tw_types.specs.declared.step.Step.{Step}
+use Rattle.tw_machine.specs.Types.{Member, Step}
 use Rattle.tw_types.specs.Promises.{is_again}
 use Rattle.tw_types.specs.Process.{Process}
 use Rattle.tw_machine.specs.History.{Promised, Make, Up, life}

@@ -1,8 +1,7 @@
 -- Readings of what was written down: near the team time of their steps, and not above the present greatest reading of their life.
 use Rattle.std.specs.Prelude.{ℕ, ◌≡◌, ◌≤◌, List, Option, Some, None}
 use Rattle.std.specs.List.{AllByRecursion}
-use Rattle.tw_types.specs.declared.team.Team.{Team}
-use Rattle.tw_types.specs.declared.step.Step.{Step}
+use Rattle.tw_machine.specs.Types.{Team, Step}
 use Rattle.tw_types.specs.Process.{Process}
 use Rattle.tw_machine.specs.ClockLaw.{IsNear}
 use Rattle.tw_machine.specs.History.{Promised, Make, Up, life}

@@ -1,8 +1,7 @@
 -- Each pair of a group and a turn is made once, and an informed process stands above what it made.
 use Rattle.std.specs.Prelude.{ℕ, ◌≡◌, ◌≢◌, true, List, [], ◌∷◌, Option, Some, None}
 use Rattle.std.specs.List.{AllByRecursion}
-use Rattle.tw_types.specs.declared.ballot.Ballot.{Ballot}
-use Rattle.tw_types.specs.declared.message.Decision.{Decision}
+use Rattle.tw_machine.specs.Types.{Ballot, Decision}
 use Rattle.tw_types.specs.Beliefs.{is_informed}
 use Rattle.tw_types.specs.Process.{Process}
 use Rattle.tw_machine.specs.History.{Make}

@@ -1,8 +1,7 @@
 -- All that is known of promises, and of what is held under them, in one law for the laws that follow.
 use Rattle.std.specs.Prelude.{ℕ, List}
 use Rattle.std.specs.List.{AllByRecursion}
-use Rattle.tw_types.specs.declared.team.Team.{Team}
-use Rattle.tw_types.specs.declared.step.Step.{Step}
+use Rattle.tw_machine.specs.Types.{Team, Step}
 use Rattle.tw_types.specs.Process.{Process}
 use Rattle.tw_machine.specs.Dispatches.{Dispatch}
 use Rattle.safety_laws.specs.Ascend.{Ascends}

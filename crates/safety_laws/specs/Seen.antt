@@ -1,9 +1,7 @@
 -- What a row shows of an item of the history, which is written down beside the rows.
 use Rattle.std.specs.Prelude.{ℕ, ◌≡◌, ◌==◌, true, if◌then◌else◌, List, [], ◌∷◌, ◌++◌, map, Some}
 use Rattle.std.specs.List.{AllByRecursion}
-use Rattle.tw_types.specs.declared.message.Kept.{Kept}
-use Rattle.tw_types.specs.declared.row.RowAnswer.{RowAnswer}
-use Rattle.tw_types.specs.declared.step.Step.{Step}
+use Rattle.tw_machine.specs.Types.{Kept, RowAnswer, Step}
 use Rattle.tw_types.specs.Items.{In}
 use Rattle.tw_types.specs.Printed.{made_printed, update_printed}
 use Rattle.tw_types.specs.Process.{Process}

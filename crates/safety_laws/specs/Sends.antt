@@ -1,8 +1,7 @@
 -- What is known of the updates that were sent for the first time.
 use Rattle.std.specs.Prelude.{ℕ, ◌≡◌, ◌≢◌, ◌<◌, false, List, [], ◌∷◌}
 use Rattle.std.specs.List.{AllByRecursion}
-use Rattle.tw_types.specs.declared.message.UpdateId.{UpdateId}
-use Rattle.tw_types.specs.declared.step.Step.{Step}
+use Rattle.tw_machine.specs.Types.{UpdateId, Step}
 use Rattle.tw_types.specs.Beliefs.{is_informed}
 use Rattle.tw_types.specs.Process.{Process}
 use Rattle.tw_types.specs.Sends.{as_sent}

@@ -1,9 +1,7 @@
 -- Updates are sent, and entries appended, in groups that a majority of the team supports.
 use Rattle.std.specs.Prelude.{ℕ, ◌≡◌, ◌≢◌, true, List, [], Some}
 use Rattle.std.specs.List.{AllByRecursion}
-use Rattle.tw_types.specs.declared.team.Team.{Team}
-use Rattle.tw_types.specs.declared.message.Member.{Member}
-use Rattle.tw_types.specs.declared.message.Decision.{Decision}
+use Rattle.tw_machine.specs.Types.{Team, Member, Decision}
 use Rattle.tw_types.specs.Decisions.{has_seat}
 use Rattle.tw_machine.specs.History.{Make, SentUpdate}
 use Rattle.safety_laws.specs.Effects.{Written}

@@ -1,8 +1,7 @@
 -- Supports are of decisions.
 use Rattle.std.specs.Prelude.{◌≡◌, ◌≤◌, List, [], ◌∷◌, Some}
 use Rattle.std.specs.List.{AllByRecursion}
-use Rattle.tw_types.specs.declared.message.Seat.{Seat}
-use Rattle.tw_types.specs.declared.message.Support.{Support}
+use Rattle.tw_machine.specs.Types.{Seat, Support}
 use Rattle.tw_types.specs.Decisions.{decision_length}
 use Rattle.tw_machine.specs.History.{Make}
 use Rattle.safety_laws.specs.Laws.{Law}

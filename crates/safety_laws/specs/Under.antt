@@ -1,8 +1,6 @@
 -- What a process comes to have decided in a step is of the group that it had promised last before the step.
 use Rattle.std.specs.Prelude.{◌≡◌, ◌≢◌, List, Option, Some, None}
-use Rattle.tw_types.specs.declared.team.Team.{Team}
-use Rattle.tw_types.specs.declared.message.Decision.{Decision}
-use Rattle.tw_types.specs.declared.step.Step.{Step}
+use Rattle.tw_machine.specs.Types.{Team, Decision, Step}
 use Rattle.tw_types.specs.Process.{Process}
 use Rattle.tw_machine.specs.Standing.{last_decision}
 use Rattle.tw_machine.specs.World.{deed_in, world}

@@ -2,14 +2,10 @@
 
 ghost use Rattle.std.specs.Prelude.{◌≡◌, ◌≢◌, ◌≤◌, ℕ, true, List, ◌∷◌, None, IfSome, reverse};
 ghost use Rattle.std.specs.List.{AllByRecursion};
-ghost use Rattle.tw_types.specs.declared.team.Team.{Team};
+ghost use Rattle.tw_machine.specs.Types.{Team, Act, Step, RowAnswer, Reason};
 ghost use Rattle.tw_types.specs.Team.{IsSound};
-ghost use Rattle.tw_types.specs.declared.step.Act.{Act};
-ghost use Rattle.tw_types.specs.declared.step.Step.{Step};
 ghost use Rattle.tw_num.specs.Interval.{Holds};
 ghost use Rattle.tw_num.specs.Rate.{Timely, interval_bound, IfRated};
-ghost use Rattle.tw_types.specs.declared.row.RowAnswer.{RowAnswer};
-ghost use Rattle.tw_types.specs.declared.answer.Reason.{Reason};
 ghost use Rattle.tw_types.specs.Row.{Row};
 ghost use Rattle.tw_types.specs.Process.{Process};
 ghost use Rattle.tw_machine.specs.World.{world, Admissible};

@@ -3,9 +3,7 @@
 
 ghost use Rattle.std.specs.Prelude.{◌≡◌, ℕ, true, List, Option, Some, IfSome};
 ghost use Rattle.std.specs.List.{AllByRecursion};
-ghost use Rattle.tw_types.specs.declared.message.Decision.{Decision};
-ghost use Rattle.tw_types.specs.declared.team.Team.{Team};
-ghost use Rattle.tw_types.specs.declared.step.Step.{Step};
+ghost use Rattle.tw_machine.specs.Types.{Decision, Team, Step};
 ghost use Rattle.tw_types.specs.Beliefs.{Informed, is_informed};
 ghost use Rattle.tw_types.specs.Process.{Process};
 ghost use Rattle.tw_types.specs.Team.{IsSound};

@@ -3,11 +3,7 @@
 
 ghost use Rattle.std.specs.Prelude.{List, ◌≡◌, ◌≤◌, ◌<◌, ◌/◌, ◌+◌, ℕ, true, Some, IfSome, take, length, count_by};
 ghost use Rattle.std.specs.List.{AllByRecursion};
-ghost use Rattle.tw_types.specs.declared.team.Team.{Team};
-ghost use Rattle.tw_types.specs.declared.message.Report.{Report};
-ghost use Rattle.tw_types.specs.declared.message.Seat.{Seat};
-ghost use Rattle.tw_types.specs.declared.ballot.Ballot.{Ballot};
-ghost use Rattle.tw_types.specs.declared.step.Step.{Step};
+ghost use Rattle.tw_machine.specs.Types.{Team, Report, Seat, Ballot, Step};
 ghost use Rattle.tw_types.specs.Items.{In};
 ghost use Rattle.tw_types.specs.Process.{Process};
 ghost use Rattle.tw_types.specs.Reports.{is_consistent};

@@ -3,10 +3,8 @@
 
 ghost use Rattle.std.specs.Prelude.{◌≡◌, ◌≢◌, ◌<◌, ℕ, true, List, None, map, reverse, IfSome};
 ghost use Rattle.std.specs.List.{AllByRecursion, flat_map};
-ghost use Rattle.tw_types.specs.declared.team.Team.{Team};
+ghost use Rattle.tw_machine.specs.Types.{Team, Step, RowAnswer};
 ghost use Rattle.tw_types.specs.Team.{IsSound};
-ghost use Rattle.tw_types.specs.declared.step.Step.{Step};
-ghost use Rattle.tw_types.specs.declared.row.RowAnswer.{RowAnswer};
 ghost use Rattle.tw_types.specs.Process.{Process};
 ghost use Rattle.tw_machine.specs.Applied.{meaning_of};
 ghost use Rattle.tw_machine.specs.Dispatches.{Dispatch};

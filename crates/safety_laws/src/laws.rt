@@ -3,17 +3,14 @@
 
 ghost use Rattle.std.specs.Prelude.{List, ◌≡◌, ◌<◌, ℕ, ◌∷◌, Some, IfSome};
 ghost use Rattle.std.specs.List.{AllByRecursion};
-ghost use Rattle.tw_types.specs.declared.team.Team.{Team};
+ghost use Rattle.tw_machine.specs.Types.{Team, Step, Ballot, Decision};
 ghost use Rattle.tw_types.specs.Team.{IsSound};
-ghost use Rattle.tw_types.specs.declared.step.Step.{Step};
 ghost use Rattle.tw_machine.specs.History.{history, Make, Up};
 ghost use Rattle.tw_machine.specs.World.{Admissible, world};
 ghost use Rattle.safety_laws.specs.Ascend.{Ascends};
 ghost use Rattle.safety_laws.specs.Outlived.{OutlivesAll};
 ghost use Rattle.safety_laws.specs.NotAhead.{IsNearPromise};
 ghost use Rattle.safety_laws.specs.Windows.{IsInWindow};
-ghost use Rattle.tw_types.specs.declared.ballot.Ballot.{Ballot};
-ghost use Rattle.tw_types.specs.declared.message.Decision.{Decision};
 ghost use Rattle.tw_types.specs.Process.{Process};
 ghost use Rattle.tw_machine.specs.Applied.{meaning_of};
 ghost use Rattle.tw_machine.specs.Dispatches.{Dispatch};

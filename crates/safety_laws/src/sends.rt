@@ -3,10 +3,8 @@
 
 ghost use Rattle.std.specs.Prelude.{List, ◌≡◌, ◌≢◌, ℕ, [], Some, IfSome};
 ghost use Rattle.std.specs.List.{AllByRecursion};
-ghost use Rattle.tw_types.specs.declared.team.Team.{Team};
+ghost use Rattle.tw_machine.specs.Types.{Team, Step, Decision};
 ghost use Rattle.tw_types.specs.Team.{IsSound};
-ghost use Rattle.tw_types.specs.declared.step.Step.{Step};
-ghost use Rattle.tw_types.specs.declared.message.Decision.{Decision};
 ghost use Rattle.tw_machine.specs.Dispatches.{Dispatch};
 ghost use Rattle.tw_machine.specs.History.{history, Make};
 ghost use Rattle.tw_machine.specs.World.{Admissible, world};

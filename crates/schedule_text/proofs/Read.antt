@@ -4,9 +4,7 @@ use Rattle.std.specs.Prelude.{codes}
 use Rattle.std.specs.Fmt.{decimal}
 use Rattle.std.specs.List.{All, join_with_byte}
 use Rattle.std.proofs.lemmas.List.Splits.{join_with_byte-slice_split}
-use Rattle.tw_types.specs.declared.team.Team.{Team}
-use Rattle.tw_types.specs.declared.step.Act.{Act}
-use Rattle.tw_types.specs.declared.step.Step.{Step}
+use Rattle.tw_machine.specs.Types.{Team, Act, Step}
 use Rattle.tw_machine.specs.Grammar.{IsTeamLine, IsStepLine, IsAct, team_fields, act_fields}
 use Rattle.tw_machine.proofs.LineNumbers.{IsSmall, same_numbers, times, small_times, numbers_of, team_by, small_numbers}
 use Rattle.tw_machine.proofs.Lines.{cut, team_cut, step_cut}

@@ -1,8 +1,7 @@
 -- A row's text in the parts that are written.
 use Rattle.std.proofs.Common.{◌≡◌, refl, ap, ℕ, List, [], ◌∷◌, ◌++◌, map}
 use Rattle.std.specs.List.{flat_map}
-use Rattle.tw_types.specs.declared.outputs.Outputs.{Outputs}
-use Rattle.tw_types.specs.declared.row.RowLine.{RowLine}
+use Rattle.tw_machine.specs.Types.{Outputs, RowLine}
 use Rattle.tw_types.specs.Printed.{row_printed, update_printed, pass_printed, entry_printed}
 use Rattle.tw_machine.specs.RowText.{lines_below, pass_line, early_line, entry_line}
 use Rattle.schedule_text.specs.RowLines.{outputs_text}

@@ -2,9 +2,7 @@
 use Rattle.std.specs.Prelude.{ℕ, List, ◌++◌}
 use Rattle.std.specs.List.{flat_map}
 use Rattle.std.specs.Option.{option_map}
-use Rattle.tw_types.specs.declared.message.Kept.{Kept}
-use Rattle.tw_types.specs.declared.outputs.Pass.{Pass}
-use Rattle.tw_types.specs.declared.outputs.Outputs.{Outputs}
+use Rattle.tw_machine.specs.Types.{Kept, Pass, Outputs}
 use Rattle.tw_types.specs.Printed.{made_printed, update_printed, pass_printed, sends_printed, entry_printed}
 use Rattle.tw_machine.specs.RowText.{made_line, pass_line, early_line, send_line, entry_line}
 

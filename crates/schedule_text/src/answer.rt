@@ -24,19 +24,32 @@ fn few(fields: &[Field<'static>]) -> Few
     few
 }
 
+/// A word, and the number that goes with it.
+fn numbered(word: &'static str, number: u64) -> Few
+    ensures { map field_text result.items ≡ word.now ∷ decimal number ∷ [] }
+{
+    few(&[Field::Word(word), Field::Number(number)])
+}
+
+/// Bytes that aren't a datagram, for this reason.
+fn unreadable(word: &'static str) -> Few
+    ensures { map field_text result.items ≡ codes "dropped" ∷ codes "wire" ∷ word.now ∷ [] }
+{
+    few(&[DROPPED, Field::Word("wire"), Field::Word(word)])
+}
+
 fn wire_fields(fault: WireFault) -> Few
     ensures { map field_text result.items ≡ codes "dropped" ∷ codes "wire" ∷ wire_words fault }
 {
-    let wire = Field::Word("wire");
     match fault {
-        WireFault::Short => few(&[DROPPED, wire, Field::Word("short")]),
-        WireFault::Long => few(&[DROPPED, wire, Field::Word("long")]),
-        WireFault::Version => few(&[DROPPED, wire, Field::Word("version")]),
-        WireFault::Line => few(&[DROPPED, wire, Field::Word("line")]),
-        WireFault::Kind => few(&[DROPPED, wire, Field::Word("kind")]),
+        WireFault::Short => unreadable("short"),
+        WireFault::Long => unreadable("long"),
+        WireFault::Version => unreadable("version"),
+        WireFault::Line => unreadable("line"),
+        WireFault::Kind => unreadable("kind"),
         WireFault::Field(place) => few(&[
             DROPPED,
-            wire,
+            Field::Word("wire"),
             Field::Word("field"),
             Field::Number(u64::from(place)),
         ]),
@@ -94,7 +107,7 @@ pub(crate) fn answer_fields(answer: RowAnswer) -> Few
         RowAnswer::Crash => few(&[Field::Word("crash")]),
         RowAnswer::Look => few(&[Field::Word("look")]),
         RowAnswer::Done => few(&[Field::Word("done")]),
-        RowAnswer::Sent(seq) => few(&[Field::Word("sent"), Field::Number(u64::from(seq))]),
+        RowAnswer::Sent(seq) => numbered("sent", u64::from(seq)),
         RowAnswer::Refused(fault) => {
             few(&[Field::Word("refused"), Field::Word(refusal_name(fault))])
         }
@@ -111,13 +124,11 @@ pub(crate) fn contents_fields(body: &Body) -> Few
             Field::Word("decision"),
             Field::Pair(decision.group, decision.turn),
         ]),
-        Body::NoDecision { number, .. } => {
-            few(&[Field::Word("nodecision"), Field::Number(*number)])
-        }
-        Body::Election { number, .. } => few(&[Field::Word("election"), Field::Number(*number)]),
-        Body::Promise { number, .. } => few(&[Field::Word("promise"), Field::Number(*number)]),
+        Body::NoDecision { number, .. } => numbered("nodecision", *number),
+        Body::Election { number, .. } => numbered("election", *number),
+        Body::Promise { number, .. } => numbered("promise", *number),
         Body::Ask(_) => few(&[Field::Word("ask")]),
-        Body::State { position, .. } => few(&[Field::Word("state"), Field::Number(*position)]),
+        Body::State { position, .. } => numbered("state", *position),
         Body::Sync { .. } => few(&[Field::Word("sync")]),
     }
 }

@@ -2,9 +2,9 @@
 
 ghost use Rattle.std.specs.Prelude.{◌≡◌, ℕ, ◌<◌, ◌≤◌, ◌^◌, ◌==◌, List, [], ◌∷◌, ◌++◌, map, IfOk, OnErr, IfSome, IfNone, length};
 ghost use Rattle.std.specs.List.{All, position, slice_split};
+ghost use Rattle.std.specs.Bool.{Decides};
 ghost use Rattle.std.specs.Fmt.{decimal};
-ghost use Rattle.tw_types.specs.declared.message.Order.{Order as OrderSeen};
-ghost use Rattle.tw_types.specs.declared.message.Atom.{Atom as AtomSeen};
+ghost use Rattle.tw_machine.specs.Types.{Order as OrderSeen, Atom as AtomSeen};
 ghost use Rattle.tw_machine.specs.Grammar.{IsPayload, order_word, atom_word, hex_word};
 ghost use Rattle.schedule_text.specs.Fields.{fields_left};
 
@@ -45,16 +45,26 @@ fn space(bytes: &[u8]) -> Option<usize>
     bytes.iter().position(|byte| *byte == b' ')
 }
 
+/// Whether a word is this one.
+pub(crate) fn is_word(word: &[u8], text: &[u8]) -> bool
+    ensures { Decides result (word.now ≡ text.now) }
+{
+    word == text
+}
+
 /// The order that a word names.
 fn order(word: &[u8]) -> Result<Order, Grammar>
     ensures read { IfOk result (λ order. word.now ≡ order_word order) }
     ensures refused { OnErr result ((order : OrderSeen) → word.now ≡ order_word order → ⊥) }
 {
-    match word {
-        b"unordered" => Ok(Order::Unordered),
-        b"total" => Ok(Order::Total),
-        b"timed" => Ok(Order::Timed),
-        _ => Err(Grammar),
+    if is_word(word, b"unordered") {
+        Ok(Order::Unordered)
+    } else if is_word(word, b"total") {
+        Ok(Order::Total)
+    } else if is_word(word, b"timed") {
+        Ok(Order::Timed)
+    } else {
+        Err(Grammar)
     }
 }
 
@@ -63,16 +73,19 @@ fn atom(word: &[u8]) -> Result<Atom, Grammar>
     ensures read { IfOk result (λ atom. word.now ≡ atom_word atom) }
     ensures refused { OnErr result ((atom : AtomSeen) → word.now ≡ atom_word atom → ⊥) }
 {
-    match word {
-        b"weak" => Ok(Atom::Weak),
-        b"strong" => Ok(Atom::Strong),
-        b"strict" => Ok(Atom::Strict),
-        _ => Err(Grammar),
+    if is_word(word, b"weak") {
+        Ok(Atom::Weak)
+    } else if is_word(word, b"strong") {
+        Ok(Atom::Strong)
+    } else if is_word(word, b"strict") {
+        Ok(Atom::Strict)
+    } else {
+        Err(Grammar)
     }
 }
 
 /// The fields of a line that are still to be read. One space parts each two.
-#[derive(Clone, Copy, Debug, PartialEq, Eq)]
+#[derive(Clone, Copy)]
 pub struct Fields<'a> {
     rest: Option<&'a [u8]>,
 }

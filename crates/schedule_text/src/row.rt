@@ -17,9 +17,6 @@ use arrayvec::ArrayVec;
 use tw_io::{Sink, WriteFailed};
 use tw_types::{Atom, Body, Datagram, Decision, How, Kept, Order, Outputs, Pass, Row, Seat};
 
-#[cfg(test)]
-mod tests;
-
 fn flag_field(flag: bool) -> Field<'static>
     ensures { field_text result ≡ flag_text flag }
 {

@@ -6,11 +6,7 @@ use Rattle.std.proofs.lemmas.List.{append_assoc, map-append, take-append-le}
 use Rattle.std.proofs.Math.ListN.{length-set}
 use Rattle.std.proofs.lemmas.Option.{same_Some}
 use Rattle.std.proofs.lemmas.List.Elements.{filter-append}
-use Rattle.tw_types.specs.declared.message.Decision.{Decision}
-use Rattle.tw_types.specs.declared.message.Kept.{Kept}
-use Rattle.tw_types.specs.declared.outputs.How.{How}
-use Rattle.tw_types.specs.declared.outputs.Pass.{Pass}
-use Rattle.tw_types.specs.declared.team.Team.{Team}
+use Rattle.tw_machine.specs.Types.{Decision, Kept, How, Pass, Team}
 use Rattle.tw_types.specs.Beliefs.{Log, log_length}
 use Rattle.tw_types.specs.Decisions.{or_none}
 use Rattle.tw_types.specs.Deliveries.{passes, run_passed, next_pass, PassStep, as_early, early_positions, marked_each, earlies_marked, delivered_by, deliveries}

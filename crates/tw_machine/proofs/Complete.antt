@@ -1,13 +1,8 @@
 -- What is answered to a datagram that comes in time and that nothing is against.
 use Rattle.std.proofs.Common.{◌≡◌, refl, ap, ◌∙◌, ℕ, Bool, true, cond, Option, Some, None, Result, Ok, Err}
 use Rattle.tw_num.specs.declared.moment.Moment.{Moment}
-use Rattle.tw_types.specs.declared.team.Team.{Team}
-use Rattle.tw_types.specs.declared.message.UpdateId.{UpdateId}
-use Rattle.tw_types.specs.declared.message.Decision.{Decision}
-use Rattle.tw_types.specs.declared.datagram.Head.{Head}
-use Rattle.tw_types.specs.declared.datagram.Why.{Why}
+use Rattle.tw_machine.specs.Types.{Team, UpdateId, Decision, Head, Why, Reason}
 use Rattle.tw_types.specs.declared.datagram.Body.TheVariants as bodies
-use Rattle.tw_types.specs.declared.answer.Reason.{Reason}
 use Rattle.tw_types.specs.declared.answer.Reason.TheVariants.{Old}
 use Rattle.tw_types.specs.Refusals.{first_refusal}
 use Rattle.tw_types.specs.Votes.{Promise}

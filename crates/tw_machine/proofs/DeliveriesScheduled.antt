@@ -5,12 +5,9 @@ use Rattle.std.proofs.Common.{◌≡◌, refl, ℕ, ◌+◌, ◌-◌, nat_eq, if
 use Rattle.std.specs.List.{flat_map, range_with_len, list_all}
 use Rattle.std.specs.Prelude.{codes}
 use Rattle.std.specs.Fmt.{digits}
-use Rattle.tw_types.specs.declared.message.Order.{Order}
+use Rattle.tw_machine.specs.Types.{Order, Atom, Act, Step}
 use Rattle.tw_types.specs.declared.message.Order.TheVariants.{Unordered, Total, Timed}
-use Rattle.tw_types.specs.declared.message.Atom.{Atom}
 use Rattle.tw_types.specs.declared.message.Atom.TheVariants.{Weak, Strong, Strict}
-use Rattle.tw_types.specs.declared.step.Act.{Act}
-use Rattle.tw_types.specs.declared.step.Step.{Step}
 use Rattle.tw_types.specs.declared.step.Act.TheVariants as acts
 use Rattle.tw_types.specs.declared.step.Act.TheVariants.{Tick, Recv, Look}
 use Rattle.tw_types.specs.Examples.{team_a}

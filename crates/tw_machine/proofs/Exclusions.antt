@@ -3,9 +3,7 @@ use Rattle.std.proofs.Common.{◌≡◌, ◌≢◌, refl, sym, ap, subst, ◌∙
 use Rattle.std.proofs.lemmas.List.{length-append}
 use Rattle.std.proofs.lemmas.Bool.Decides.{nat_tests}
 use Rattle.tw_num.specs.declared.moment.Moment.{Moment}
-use Rattle.tw_types.specs.declared.team.Team.{Team}
-use Rattle.tw_types.specs.declared.message.Decision.{Decision}
-use Rattle.tw_types.specs.declared.ballot.Ballot.{Ballot}
+use Rattle.tw_machine.specs.Types.{Team, Decision, Ballot, Kept, Member}
 use Rattle.tw_types.specs.Ballots.{is_over, is_complete}
 use Rattle.tw_types.specs.Waiting.{payloads_of}
 use Rattle.tw_types.specs.Groups.{NoGroup, group_made, first_decision, objections, first_objection}
@@ -14,8 +12,6 @@ use Rattle.tw_types.specs.Beliefs.{Log, last_of}
 use Rattle.tw_types.specs.Decisions.{or_none}
 use Rattle.tw_types.specs.Flag.{is_up}
 use Rattle.tw_types.specs.Votes.{Vote}
-use Rattle.tw_types.specs.declared.message.Kept.{Kept}
-use Rattle.tw_types.specs.declared.message.Member.{Member}
 use Rattle.tw_types.specs.declared.datagram.Want.TheVariants as wants
 use Rattle.tw_types.specs.Process.{Process}
 use Rattle.tw_machine.specs.Run.{Run}

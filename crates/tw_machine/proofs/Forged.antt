@@ -1,25 +1,14 @@
 -- What becomes of datagrams that no process of the team sends, computed.
 use Rattle.std.proofs.Common.{◌≡◌, refl, ℕ, ◌-◌, ◌^◌, ◌==◌, if◌then◌else◌, false, List, [], ◌∷◌, Option, Some, None, Ok, Err}
-use Rattle.tw_types.specs.declared.message.Kind.{Kind}
+use Rattle.tw_machine.specs.Types.{Kind, UpdateId, Entry, Seat, Report, Decision, Ballot, Body, Datagram, Echo, RowAnswer, Reason}
 use Rattle.tw_types.specs.declared.message.Kind.TheVariants as kinds
 use Rattle.tw_types.specs.declared.message.Order.TheVariants as orders
 use Rattle.tw_types.specs.declared.message.Atom.TheVariants as atoms
-use Rattle.tw_types.specs.declared.message.UpdateId.{UpdateId}
-use Rattle.tw_types.specs.declared.message.Entry.{Entry}
-use Rattle.tw_types.specs.declared.message.Seat.{Seat}
-use Rattle.tw_types.specs.declared.message.Report.{Report}
-use Rattle.tw_types.specs.declared.message.Decision.{Decision}
-use Rattle.tw_types.specs.declared.ballot.Ballot.{Ballot}
-use Rattle.tw_types.specs.declared.datagram.Body.{Body}
 use Rattle.tw_types.specs.declared.datagram.Body.TheVariants as bodies
-use Rattle.tw_types.specs.declared.datagram.Datagram.{Datagram}
-use Rattle.tw_types.specs.declared.datagram.Echo.{Echo}
 use Rattle.tw_types.specs.declared.datagram.Want.TheVariants as wants
 use Rattle.tw_types.specs.declared.datagram.Why.TheVariants as whys
 use Rattle.tw_types.specs.declared.datagram.WireFault.TheVariants as faults
-use Rattle.tw_types.specs.declared.row.RowAnswer.{RowAnswer}
 use Rattle.tw_types.specs.declared.row.RowAnswer.TheVariants.{Done, Dropped}
-use Rattle.tw_types.specs.declared.answer.Reason.{Reason}
 use Rattle.tw_types.specs.declared.answer.Reason.TheVariants as reasons
 use Rattle.tw_types.specs.declared.outputs.Mode.TheVariants.{First}
 use Rattle.tw_types.specs.Examples.{team_a}

@@ -8,11 +8,7 @@ use Rattle.std.proofs.lemmas.List.Sums.{fails_before_first, AllPass-from_list_al
 use Rattle.std.proofs.lemmas.List.Elements.{All-weaker, All-append, All-cons, All-from_get_or}
 use Rattle.std.proofs.lemmas.Str.Parse.{digit_at}
 use Rattle.std.proofs.lemmas.Fmt.{decimal_is_IsNumeral}
-use Rattle.tw_types.specs.declared.team.Team.{Team}
-use Rattle.tw_types.specs.declared.step.Act.{Act}
-use Rattle.tw_types.specs.declared.step.Step.{Step}
-use Rattle.tw_types.specs.declared.message.Order.{Order}
-use Rattle.tw_types.specs.declared.message.Atom.{Atom}
+use Rattle.tw_machine.specs.Types.{Team, Act, Step, Order, Atom}
 use Rattle.tw_types.specs.declared.message.Order.TheVariants.{Unordered, Total, Timed}
 use Rattle.tw_types.specs.declared.message.Atom.TheVariants.{Weak, Strong, Strict}
 use Rattle.tw_types.specs.declared.step.Act.TheVariants.{First, Again, Crash, Tick, Recv, Send, Reference, Look}

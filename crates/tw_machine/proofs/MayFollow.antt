@@ -2,10 +2,8 @@
 use Rattle.std.proofs.Common.{◌≡◌, refl, ℕ, ◌^◌, ◌-◌, arith, [], ◌∷◌, Option, Some, None}
 use Rattle.tw_types.specs.declared.message.Order.TheVariants.{Total}
 use Rattle.tw_types.specs.declared.message.Atom.TheVariants.{Weak}
-use Rattle.tw_types.specs.declared.step.Act.{Act}
+use Rattle.tw_machine.specs.Types.{Act, Step, Cause}
 use Rattle.tw_types.specs.declared.step.Act.TheVariants.{First, Again, Crash, Tick, Recv, Send, Reference, Look}
-use Rattle.tw_types.specs.declared.step.Step.{Step}
-use Rattle.tw_types.specs.declared.step.Cause.{Cause}
 use Rattle.tw_types.specs.declared.step.Cause.TheVariants as causes
 use Rattle.tw_types.specs.Examples.{team_a}
 use Rattle.tw_machine.specs.Grammar.{IsAct}

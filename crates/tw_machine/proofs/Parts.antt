@@ -3,20 +3,8 @@ use Rattle.std.proofs.Common.{◌≡◌, ◌≢◌, refl, ◌∙◌, ℕ, Bool, 
 use Rattle.std.specs.List.{AllByRecursion}
 use Rattle.tw_num.specs.declared.moment.Moment.{Moment}
 use Rattle.tw_num.specs.Rate.{Rate, Timely, Late, Unrated}
-use Rattle.tw_types.specs.declared.team.Team.{Team}
-use Rattle.tw_types.specs.declared.datagram.Head.{Head}
-use Rattle.tw_types.specs.declared.datagram.Body.{Body}
+use Rattle.tw_machine.specs.Types.{Team, Head, Body, Datagram, UpdateId, Order, Atom, Kept, Want, RowAnswer, Decision, Why, Reason}
 use Rattle.tw_types.specs.declared.datagram.Body.TheVariants as bodies
-use Rattle.tw_types.specs.declared.datagram.Datagram.{Datagram}
-use Rattle.tw_types.specs.declared.message.UpdateId.{UpdateId}
-use Rattle.tw_types.specs.declared.message.Order.{Order}
-use Rattle.tw_types.specs.declared.message.Atom.{Atom}
-use Rattle.tw_types.specs.declared.message.Kept.{Kept}
-use Rattle.tw_types.specs.declared.datagram.Want.{Want}
-use Rattle.tw_types.specs.declared.row.RowAnswer.{RowAnswer}
-use Rattle.tw_types.specs.declared.message.Decision.{Decision}
-use Rattle.tw_types.specs.declared.datagram.Why.{Why}
-use Rattle.tw_types.specs.declared.answer.Reason.{Reason}
 use Rattle.tw_types.specs.declared.answer.Reason.TheVariants as reasons
 use Rattle.tw_types.specs.Refusals.{Refusal, first_refusal}
 use Rattle.tw_types.specs.Votes.{Promise, Making}
@@ -46,7 +34,8 @@ use Rattle.tw_machine.specs.Rules.{kind_rule, rule}
 use Rattle.tw_machine.specs.Duties.{timed_duties, duties_if_timed, duties}
 use Rattle.tw_machine.specs.Step.{learnt_by, moment_of, read_by, answer_by, row_answer, event_rule, ruled_by, has_duties, ended_by}
 use Rattle.tw_machine.proofs.Applied.{Grows, unchanged, decision_grows, grows_both}
-use Rattle.tw_machine.proofs.Tables.{all_joined, all_mapped, all_of}
+use Rattle.tw_machine.proofs.Tables.{all_mapped, all_of}
+use Rattle.tw_types.proofs.Lists.{all_joined}
 use Rattle.tw_machine.proofs.Ends.{by_entering, by_taking, by_group, by_asking, by_using, by_kept, by_putting, by_answering, by_proposing, by_event}
 
 -- From one run to a later one of the same event: it is the same process, which knows the same of time; and what is sent besides is

@@ -3,20 +3,13 @@ use Rattle.std.proofs.Common.{◌≡◌, ℕ, refl, ap, List, [], ◌∷◌, ◌
 use Rattle.std.specs.Prelude.{if◌then◌else◌, codes}
 use Rattle.std.specs.Fmt.{decimal}
 use Rattle.std.proofs.lemmas.Bool.Decides.{nat_tests}
-use Rattle.tw_types.specs.declared.message.UpdateId.{UpdateId}
-use Rattle.tw_types.specs.declared.message.Order.{Order}
+use Rattle.tw_machine.specs.Types.{UpdateId, Order, Atom, How, WireFault, ProposeFault, Reason, RowAnswer}
 use Rattle.tw_types.specs.declared.message.Order.TheVariants.{Unordered, Total, Timed}
-use Rattle.tw_types.specs.declared.message.Atom.{Atom}
 use Rattle.tw_types.specs.declared.message.Atom.TheVariants.{Weak, Strong, Strict}
-use Rattle.tw_types.specs.declared.outputs.How.{How}
 use Rattle.tw_types.specs.declared.outputs.How.TheVariants as hows
-use Rattle.tw_types.specs.declared.datagram.WireFault.{WireFault}
 use Rattle.tw_types.specs.declared.datagram.WireFault.TheVariants as faults
-use Rattle.tw_types.specs.declared.answer.ProposeFault.{ProposeFault}
 use Rattle.tw_types.specs.declared.answer.ProposeFault.TheVariants as refusals
-use Rattle.tw_types.specs.declared.answer.Reason.{Reason}
 use Rattle.tw_types.specs.declared.answer.Reason.TheVariants as reasons
-use Rattle.tw_types.specs.declared.row.RowAnswer.{RowAnswer}
 use Rattle.tw_types.specs.declared.row.RowAnswer.TheVariants as answers
 use Rattle.tw_types.specs.Contents.{Contents}
 use Rattle.tw_types.specs.Contents as contents

@@ -4,8 +4,7 @@ use Rattle.std.specs.Prelude.{codes}
 use Rattle.std.specs.Fmt.{decimal}
 use Rattle.std.specs.List.{AllByRecursion, flat_map}
 use Rattle.std.proofs.lemmas.List.{append-nil}
-use Rattle.tw_types.specs.declared.message.Member.{Member}
-use Rattle.tw_types.specs.declared.row.RowAnswer.{RowAnswer}
+use Rattle.tw_machine.specs.Types.{Member, RowAnswer}
 use Rattle.tw_types.specs.Row.{Made, Pass, Sending, Entry, Row}
 use Rattle.tw_types.specs.Row as row
 use Rattle.tw_machine.specs.RowText.{line_of, member_text, flag_text, reading_text, answer_words, made_line, lines_below, row_line, row_text, text_of}

@@ -11,8 +11,7 @@ use Rattle.std.proofs.lemmas.List.Splits.{slice_split_none, slice_split_at}
 use Rattle.std.proofs.lemmas.Str.Parse.{digit_at}
 use Rattle.std.proofs.lemmas.Fmt.{decimal_is_IsNumeral_wide}
 use Rattle.std.proofs.lemmas.Bool.Decides.{nat_tests}
-use Rattle.tw_types.specs.declared.message.UpdateId.{UpdateId}
-use Rattle.tw_types.specs.declared.message.Member.{Member}
+use Rattle.tw_machine.specs.Types.{UpdateId, Member}
 use Rattle.tw_machine.specs.Grammar.{hex_word}
 use Rattle.tw_machine.specs.RowText.{dotted, id_text, member_text}
 use Rattle.tw_machine.specs.RowLimits.{HasRoom, IsByte, IdFits, MemberFits}

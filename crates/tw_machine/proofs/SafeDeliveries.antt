@@ -5,12 +5,9 @@
 use Rattle.std.proofs.Common.{◌≡◌, refl, ℕ, Bool, true, false, ◌||◌, not, is_none, List, [], ◌∷◌, Option, Some, None, filter, length}
 use Rattle.std.specs.Prelude.{nat_eq}
 use Rattle.tw_types.specs.declared.message.Order.TheVariants.{Total}
-use Rattle.tw_types.specs.declared.message.Atom.{Atom}
+use Rattle.tw_machine.specs.Types.{Atom, Member, UpdateId, RowAnswer}
 use Rattle.tw_types.specs.declared.message.Atom.TheVariants.{Weak, Strong}
-use Rattle.tw_types.specs.declared.message.Member.{Member}
-use Rattle.tw_types.specs.declared.message.UpdateId.{UpdateId}
 use Rattle.tw_types.specs.declared.outputs.How.TheVariants.{Now}
-use Rattle.tw_types.specs.declared.row.RowAnswer.{RowAnswer}
 use Rattle.tw_types.specs.declared.row.RowAnswer.TheVariants.{Look, Done, Sent}
 use Rattle.tw_types.specs.Appending.{appended_list, appended_kept}
 use Rattle.tw_types.specs.Contents.{Contents, Decision, Election, Promise, Sync}

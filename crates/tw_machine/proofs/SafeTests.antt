@@ -7,21 +7,16 @@ use Rattle.std.specs.Cmp.{nat_eq_equiv}
 use Rattle.std.proofs.lemmas.Bool.Decides.{Decides-eqb}
 use Rattle.std.proofs.lemmas.Option.{same_Some, none-some}
 use Rattle.std.proofs.lemmas.Map.Made.{length-le_from_is_member}
-use Rattle.tw_types.specs.declared.team.Team.{Team}
-use Rattle.tw_types.specs.declared.message.Order.{Order}
-use Rattle.tw_types.specs.declared.message.Atom.{Atom}
+use Rattle.tw_machine.specs.Types.{Team, Order, Atom, UpdateId, RowAnswer, Member, How}
 use Rattle.tw_types.specs.declared.message.Order.TheVariants.{Unordered, Total, Timed}
 use Rattle.tw_types.specs.declared.message.Atom.TheVariants.{Weak, Strong, Strict}
-use Rattle.tw_types.specs.declared.message.UpdateId.{UpdateId}
-use Rattle.tw_types.specs.declared.row.RowAnswer.{RowAnswer}
 use Rattle.tw_types.specs.Row.{Row, Update, Pass, Entry}
-use Rattle.tw_types.specs.declared.message.Member.{Member}
-use Rattle.tw_types.specs.declared.outputs.How.{How}
 use Rattle.tw_types.specs.declared.outputs.How.TheVariants.{Now, Earlier, Late}
 use Rattle.tw_machine.specs.Places.{Each, Exists}
 use Rattle.tw_machine.specs.Started.{started_at, members_of}
 use Rattle.tw_machine.specs.SafeRows.{majority, life_of, AtLeast, EachPassSoFar, EachPassFrom, IsOfStarted, OneStartedGroup, Agree, delivered, SameDeliveries, StrongLast, HasPosition, Backed, timed, mark_of, TimedOrder, EqualTables, HasLease, LeasedSupport}
 use Rattle.tw_machine.proofs.Decided.{by_test, says, holds, dec_same, dec_le, dec_lt, dec_like, dec_not, dec_both, dec_if, dec_iff, dec_each, dec_exists, dec_below, each_cons, not_true}
+use Rattle.std.proofs.lemmas.Bool.{and_parts}
 
 -- Two values of a type are one where their numbers are.
 
@@ -143,10 +138,6 @@ or_right : (a b : Bool) → a || b ≡ false → b ≡ false
 or_right true b e = cc
 or_right false b e = e
 
-and_left : (a b : Bool) → a && b ≡ true → a ≡ true
-and_left true b e = refl
-and_left false b e = e
-
 and_not : (a b : Bool) → a && not b ≡ true → b ≡ false
 and_not true true e = cc
 and_not true false e = refl
@@ -219,7 +210,7 @@ found_has [] t = λ k who e. cc
 found_has (r ∷ rows) t =
     let rest = found rows (next t) in
     let have : Each rest (λ k who. HasRow (r ∷ rows) t who) = λ k who e. has_more r rows t who (found_has rows (next t) k who e) in
-    let longer : adds t r rest ≡ true → Each (r.who ∷ rest) (λ k who. HasRow (r ∷ rows) t who) = λ e. each_cons (λ k who. HasRow (r ∷ rows) t who) r.who rest (0, r, refl, (refl, and_left _ _ e)) have in
+    let longer : adds t r rest ≡ true → Each (r.who ∷ rest) (λ k who. HasRow (r ∷ rows) t who) = λ e. each_cons (λ k who. HasRow (r ∷ rows) t who) r.who rest (0, r, refl, (refl, (and_parts _ _ e).0)) have in
     cond_cases (λ xs. Each xs (λ k who. HasRow (r ∷ rows) t who)) (adds t r rest) (r.who ∷ rest) rest longer (λ e. have)
 
 pub found_all : (rows : List Row) (t : ℕ → Row → Bool) (i : ℕ) (r : Row) → slice_get rows i ≡ Some r → t i r ≡ true → list_any (nat_eq r.who) (found rows t) ≡ true

@@ -1,14 +1,9 @@
 -- Rows written by hand, in few words, and what it is that they meet or break a clause of safe rows.
 use Rattle.std.proofs.Common.{◌≡◌, ℕ, Bool, true, false, List, [], ◌∷◌, Some, None}
-use Rattle.tw_types.specs.declared.team.Team.{Team}
-use Rattle.tw_types.specs.declared.message.Order.{Order}
-use Rattle.tw_types.specs.declared.message.Atom.{Atom}
+use Rattle.tw_machine.specs.Types.{Team, Order, Atom, RowAnswer, Member, How}
 use Rattle.tw_types.specs.declared.message.Order.TheVariants.{Unordered, Total, Timed}
 use Rattle.tw_types.specs.declared.message.Atom.TheVariants.{Weak, Strong, Strict}
-use Rattle.tw_types.specs.declared.row.RowAnswer.{RowAnswer}
 use Rattle.tw_types.specs.Row.{Row, Update, Pass, Entry}
-use Rattle.tw_types.specs.declared.message.Member.{Member}
-use Rattle.tw_types.specs.declared.outputs.How.{How}
 use Rattle.tw_machine.specs.SafeRows.{OneStartedGroup, SameDeliveries, StrongLast, Backed, TimedOrder, EqualTables, LeasedSupport}
 use Rattle.tw_machine.proofs.Decided.{says, told, As}
 use Rattle.tw_machine.proofs.SafeTests.{dec_one_started_group, dec_same_deliveries, dec_strong_last, dec_backed, dec_timed_order, dec_equal_tables, dec_leased_support, verdicts}

@@ -3,8 +3,7 @@ use Rattle.std.proofs.Common.{◌≡◌, refl, ℕ, false, List, [], ◌∷◌, 
 use Rattle.std.specs.Option.{option_map}
 use Rattle.tw_types.specs.declared.message.Order.TheVariants as orders
 use Rattle.tw_types.specs.declared.message.Atom.TheVariants as atoms
-use Rattle.tw_types.specs.declared.message.Kept.{Kept}
-use Rattle.tw_types.specs.declared.message.Decision.{Decision}
+use Rattle.tw_machine.specs.Types.{Kept, Decision}
 use Rattle.tw_types.specs.Appending.{appended_list, appended_kept}
 use Rattle.tw_types.specs.Deliveries.{passes, run_passed, earlies, earlies_marked}
 use Rattle.tw_types.specs.Examples.{team_a}

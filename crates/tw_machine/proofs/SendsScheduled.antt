@@ -5,8 +5,7 @@ use Rattle.std.specs.Prelude.{codes}
 use Rattle.std.specs.Fmt.{digits}
 use Rattle.tw_types.specs.declared.message.Order.TheVariants as orders
 use Rattle.tw_types.specs.declared.message.Atom.TheVariants as atoms
-use Rattle.tw_types.specs.declared.step.Act.{Act}
-use Rattle.tw_types.specs.declared.step.Step.{Step}
+use Rattle.tw_machine.specs.Types.{Act, Step}
 use Rattle.tw_types.specs.declared.step.Act.TheVariants.{First, Tick, Recv, Send, Reference}
 use Rattle.tw_types.specs.Examples.{team_a}
 use Rattle.tw_types.specs.Appending.{appended_list, appended_kept}

@@ -4,19 +4,11 @@ use Rattle.std.specs.List.{range_with_len}
 use Rattle.std.specs.Option.{option_map}
 use Rattle.tw_types.specs.declared.message.Order.TheVariants as orders
 use Rattle.tw_types.specs.declared.message.Atom.TheVariants as atoms
-use Rattle.tw_types.specs.declared.message.UpdateId.{UpdateId}
-use Rattle.tw_types.specs.declared.message.Entry.{Entry}
-use Rattle.tw_types.specs.declared.message.Kept.{Kept}
-use Rattle.tw_types.specs.declared.message.Support.{Support}
-use Rattle.tw_types.specs.declared.message.Seat.{Seat}
-use Rattle.tw_types.specs.declared.message.Decision.{Decision}
-use Rattle.tw_types.specs.declared.datagram.Body.{Body}
+use Rattle.tw_machine.specs.Types.{UpdateId, Entry, Kept, Support, Seat, Decision, Body, Datagram, RowAnswer}
 use Rattle.tw_types.specs.declared.datagram.Body.TheVariants as bodies
-use Rattle.tw_types.specs.declared.datagram.Datagram.{Datagram}
 use Rattle.tw_types.specs.declared.datagram.Want.TheVariants as wants
 use Rattle.tw_types.specs.declared.answer.ProposeFault.TheVariants.{TooLong, NotUpToDate, Full, Spent}
 use Rattle.tw_types.specs.declared.answer.Reason.TheVariants as reasons
-use Rattle.tw_types.specs.declared.row.RowAnswer.{RowAnswer}
 use Rattle.tw_types.specs.declared.row.RowAnswer.TheVariants.{Done, Dropped, Sent, Refused}
 use Rattle.tw_types.specs.declared.outputs.Mode.TheVariants.{First}
 use Rattle.tw_types.specs.Appending.{appended_list}

@@ -4,17 +4,13 @@ use Rattle.std.specs.List.{AllByRecursion}
 use Rattle.tw_num.specs.declared.interval.Interval.{Interval}
 use Rattle.tw_num.specs.Clock.{IsNotBefore, reading_at}
 use Rattle.tw_num.specs.declared.moment.Moment.{Moment}
-use Rattle.tw_types.specs.declared.team.Team.{Team}
-use Rattle.tw_types.specs.declared.message.Decision.{Decision}
+use Rattle.tw_machine.specs.Types.{Team, Decision, Body, Datagram, Reason}
 use Rattle.tw_types.specs.Beliefs.{log_length}
 use Rattle.tw_types.specs.Decisions.{or_none}
 use Rattle.tw_types.specs.Deliveries.{Deliveries, delivered_by, deliveries}
 use Rattle.tw_types.specs.Flag.{is_up}
-use Rattle.tw_types.specs.declared.datagram.Body.{Body}
-use Rattle.tw_types.specs.declared.datagram.Datagram.{Datagram}
 use Rattle.tw_types.specs.Process.{Process, Timing}
 use Rattle.tw_machine.specs.Event.{Event}
-use Rattle.tw_types.specs.declared.answer.Reason.{Reason}
 use Rattle.tw_machine.specs.Packet.{admitted}
 use Rattle.tw_machine.specs.Hearing.{given, read, learn_packet, learn}
 use Rattle.tw_machine.specs.Sending.{datagram_to}

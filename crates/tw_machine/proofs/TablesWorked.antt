@@ -2,12 +2,10 @@
 use Rattle.std.proofs.Common.{◌≡◌, refl, ℕ, Bool, true, false, List, [], ◌∷◌, Some, None}
 use Rattle.std.specs.Prelude.{codes}
 use Rattle.std.specs.Fmt.{digits}
-use Rattle.tw_types.specs.declared.message.Order.{Order}
+use Rattle.tw_machine.specs.Types.{Order, Kept, Step}
 use Rattle.tw_types.specs.declared.message.Order.TheVariants.{Unordered, Total, Timed}
 use Rattle.tw_types.specs.declared.message.Atom.TheVariants.{Strong}
-use Rattle.tw_types.specs.declared.message.Kept.{Kept}
 use Rattle.tw_types.specs.declared.step.Act.TheVariants.{First, Again, Crash, Tick, Reference, Look}
-use Rattle.tw_types.specs.declared.step.Step.{Step}
 use Rattle.tw_types.specs.Beliefs.{Informed, Blank, Log}
 use Rattle.tw_types.specs.Examples.{team_a}
 use Rattle.tw_types.specs.Flag.{is_up}

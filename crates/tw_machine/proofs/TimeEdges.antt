@@ -2,8 +2,7 @@
 use Rattle.std.proofs.Common.{◌≡◌, refl, ℕ, ◌^◌, ◌-◌, List, [], ◌∷◌, map, Option, Some, None, Ok}
 use Rattle.tw_num.specs.declared.interval.Interval.{Interval}
 use Rattle.tw_num.specs.Clock.{Given}
-use Rattle.tw_types.specs.declared.team.Team.{Team}
-use Rattle.tw_types.specs.declared.datagram.Datagram.{Datagram}
+use Rattle.tw_machine.specs.Types.{Team, Datagram}
 use Rattle.tw_types.specs.declared.datagram.Body.TheVariants.{Sync}
 use Rattle.tw_types.specs.declared.row.RowAnswer.TheVariants.{Done}
 use Rattle.tw_types.specs.declared.outputs.Mode.TheVariants.{First}

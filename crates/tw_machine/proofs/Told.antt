@@ -1,11 +1,8 @@
 -- What a step tells as delivered, against what it prints of it.
 use Rattle.std.proofs.Common.{◌≡◌, refl, ap, ◌∙◌, ℕ, Bool, true, false, cond, List, [], ◌++◌, Option, Some, None}
 use Rattle.tw_num.specs.declared.moment.Moment.{Moment}
-use Rattle.tw_types.specs.declared.message.Decision.{Decision}
-use Rattle.tw_types.specs.declared.message.Kept.{Kept}
-use Rattle.tw_types.specs.declared.outputs.Outputs.{Outputs}
+use Rattle.tw_machine.specs.Types.{Decision, Kept, Outputs, Team}
 use Rattle.tw_types.specs.declared.datagram.Body.TheVariants as bodies
-use Rattle.tw_types.specs.declared.team.Team.{Team}
 use Rattle.tw_types.specs.Beliefs.{Log}
 use Rattle.tw_types.specs.Decisions.{or_none}
 use Rattle.tw_types.specs.Deliveries.{delivered_by}

@@ -1,13 +1,10 @@
 -- Which steps may follow a schedule. Each condition looks at all earlier steps.
 use Rattle.std.specs.Prelude.{ℕ, ◌+◌, ◌-◌, ◌*◌, nat_le, nat_lt, ◌==◌, Bool, true, false, not, ◌&&◌, ◌||◌, if◌then◌else◌, List, [], ◌∷◌, Option, Some, None}
 use Rattle.std.specs.List.{list_all, list_any}
-use Rattle.tw_types.specs.declared.team.Team.{Team}
+use Rattle.tw_machine.specs.Types.{Team, Cause, Act, Step}
 use Rattle.tw_types.specs.Numbered.{numbered}
-use Rattle.tw_types.specs.declared.step.Cause.{Cause}
 use Rattle.tw_types.specs.declared.step.Cause.TheVariants.{Time, Drift, Start, NotRunning, NoDatagram, Reference as OutsideReference}
-use Rattle.tw_types.specs.declared.step.Act.{Act}
-use Rattle.tw_types.specs.declared.step.Step.{Step}
-use Rattle.tw_types.specs.declared.step.Act.TheVariants.{First, Again, Crash, Tick, Recv, Send, Reference, Look}
+use Rattle.tw_types.specs.declared.step.Act.TheVariants.{First, Again, Crash, Recv, Reference}
 use Rattle.tw_machine.specs.Dispatches.{Dispatch}
 
 -- A clock that drifts by at most ppm parts per million may read h at t and later h' at t'. One tick is given to rounding, and
@@ -20,33 +17,18 @@ keeps_drift ppm t h t' h' = nat_le h h'
 abbrev pub is_start : Act → Bool
 is_start First = true
 is_start Again = true
-is_start Crash = false
-is_start Tick = false
-is_start (Recv d) = false
-is_start (Send order atom payload) = false
-is_start (Reference lo hi) = false
-is_start Look = false
+is_start act = false
 
 abbrev pub is_first : Act → Bool
 is_first First = true
-is_first Again = false
-is_first Crash = false
-is_first Tick = false
-is_first (Recv d) = false
-is_first (Send order atom payload) = false
-is_first (Reference lo hi) = false
-is_first Look = false
+is_first act = false
 
 -- whether a process runs after this act, if it ran before as told
 abbrev pub runs_after : Act → Bool → Bool
 runs_after First before = true
 runs_after Again before = true
 runs_after Crash before = false
-runs_after Tick before = before
-runs_after (Recv d) before = before
-runs_after (Send order atom payload) before = before
-runs_after (Reference lo hi) before = before
-runs_after Look before = before
+runs_after act before = before
 
 -- a process runs from its start to its crash
 abbrev pub is_running : ℕ → List Step → Bool
@@ -71,24 +53,12 @@ was_sent_to who (Some d) = d.to == who
 
 abbrev pub may_receive : List Dispatch → Step → Act → Bool
 may_receive sent s (Recv d) = was_sent_to s.who (numbered d sent)
-may_receive sent s First = true
-may_receive sent s Again = true
-may_receive sent s Crash = true
-may_receive sent s Tick = true
-may_receive sent s (Send order atom payload) = true
-may_receive sent s (Reference lo hi) = true
-may_receive sent s Look = true
+may_receive sent s act = true
 
 -- a reference holds team time
 abbrev pub holds_time : Step → Act → Bool
 holds_time s (Reference lo hi) = nat_le lo s.t && nat_le s.t hi
-holds_time s First = true
-holds_time s Again = true
-holds_time s Crash = true
-holds_time s Tick = true
-holds_time s (Recv d) = true
-holds_time s (Send order atom payload) = true
-holds_time s Look = true
+holds_time s act = true
 
 -- a condition, and the cause that is told where it fails
 pub record Condition : Type 0 where

@@ -3,9 +3,7 @@ use Rattle.std.specs.Prelude.{ℕ, Option, Some, None, Result, Ok, Err}
 use Rattle.tw_num.specs.declared.moment.Moment.{Moment}
 use Rattle.tw_num.specs.Rate.{Rate, Timely, Late, Unrated, rate}
 use Rattle.tw_types.specs.Trips.{trip_of}
-use Rattle.tw_types.specs.declared.team.Team.{Team}
-use Rattle.tw_types.specs.declared.datagram.Head.{Head}
-use Rattle.tw_types.specs.declared.answer.Reason.{Reason}
+use Rattle.tw_machine.specs.Types.{Team, Head, Reason}
 use Rattle.tw_types.specs.declared.answer.Reason.TheVariants as reasons
 use Rattle.tw_machine.specs.Run.{Run, Ruled, dropped}
 

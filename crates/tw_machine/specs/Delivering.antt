@@ -1,9 +1,6 @@
 -- What a process delivers while it is up: three parts, each of which gives its lines and moves the cursor or sets the marks.
 use Rattle.std.specs.Prelude.{ℕ, if◌then◌else◌, List, ◌++◌, map, filter_map, option_map, Some}
-use Rattle.tw_types.specs.declared.team.Team.{Team}
-use Rattle.tw_types.specs.declared.message.Decision.{Decision}
-use Rattle.tw_types.specs.declared.message.Kept.{Kept}
-use Rattle.tw_types.specs.declared.outputs.Pass.{Pass}
+use Rattle.tw_machine.specs.Types.{Team, Decision, Kept, Pass}
 use Rattle.tw_types.specs.Beliefs.{Log}
 use Rattle.tw_types.specs.Logs.{log_at}
 use Rattle.tw_types.specs.Decisions.{or_none}

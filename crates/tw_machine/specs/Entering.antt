@@ -1,11 +1,9 @@
 -- What a process does with a decision of its group that goes on its list, or lacks payloads for that.
 use Rattle.std.specs.Prelude.{ℕ, Bool, false, not, if◌then◌else◌, Option, Some, None}
 use Rattle.tw_num.specs.declared.moment.Moment.{Moment}
-use Rattle.tw_types.specs.declared.message.UpdateId.{UpdateId}
-use Rattle.tw_types.specs.declared.message.Decision.{Decision}
+use Rattle.tw_machine.specs.Types.{UpdateId, Decision, Reason}
 use Rattle.tw_types.specs.declared.datagram.Want.TheVariants as wants
 use Rattle.tw_types.specs.declared.datagram.Body.TheVariants as bodies
-use Rattle.tw_types.specs.declared.answer.Reason.{Reason}
 use Rattle.tw_types.specs.declared.answer.Reason.TheVariants.{Missing}
 use Rattle.tw_types.specs.Refusals.{first_refusal}
 use Rattle.tw_types.specs.Beliefs.{log_length}

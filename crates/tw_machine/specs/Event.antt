@@ -1,11 +1,6 @@
 -- What happens to a running process, and what comes of it.
 use Rattle.std.specs.Prelude.{ℕ, List, Result}
-use Rattle.tw_types.specs.declared.datagram.Datagram.{Datagram}
-use Rattle.tw_types.specs.declared.datagram.WireFault.{WireFault}
-use Rattle.tw_types.specs.declared.message.Order.{Order}
-use Rattle.tw_types.specs.declared.message.Atom.{Atom}
-use Rattle.tw_types.specs.declared.row.RowAnswer.{RowAnswer}
-use Rattle.tw_types.specs.declared.outputs.Outputs.{Outputs}
+use Rattle.tw_machine.specs.Types.{Datagram, WireFault, Order, Atom, RowAnswer, Outputs}
 use Rattle.tw_types.specs.Process.{Process}
 use Rattle.tw_types.specs.Sends.{Sending}
 use Rattle.tw_machine.specs.Run.{Delivered}

@@ -1,10 +1,7 @@
 -- The ballot's way to a group: promises that it takes, and the group that is made of them.
 use Rattle.std.specs.Prelude.{ℕ, if◌then◌else◌, Option, Some, None, Result, Ok, Err}
 use Rattle.tw_num.specs.declared.moment.Moment.{Moment}
-use Rattle.tw_types.specs.declared.team.Team.{Team}
-use Rattle.tw_types.specs.declared.message.UpdateId.{UpdateId}
-use Rattle.tw_types.specs.declared.message.Decision.{Decision}
-use Rattle.tw_types.specs.declared.ballot.Ballot.{Ballot}
+use Rattle.tw_machine.specs.Types.{Team, UpdateId, Decision, Ballot}
 use Rattle.tw_types.specs.declared.answer.Reason.TheVariants.{Old}
 use Rattle.std.specs.Option.{option_map}
 use Rattle.tw_types.specs.Votes.{Promise}

@@ -5,11 +5,7 @@ use Rattle.tw_num.specs.declared.interval.Interval.{Interval}
 use Rattle.tw_num.specs.Clock.{delayed, refusal, after_given, after_read}
 use Rattle.tw_num.specs.Rate.{echo_bound}
 use Rattle.tw_types.specs.Trips.{trip_of}
-use Rattle.tw_types.specs.declared.team.Team.{Team}
-use Rattle.tw_types.specs.declared.datagram.Echo.{Echo}
-use Rattle.tw_types.specs.declared.datagram.Head.{Head}
-use Rattle.tw_types.specs.declared.datagram.Datagram.{Datagram}
-use Rattle.tw_types.specs.declared.answer.Reason.{Reason}
+use Rattle.tw_machine.specs.Types.{Team, Echo, Head, Datagram, Reason}
 use Rattle.tw_types.specs.declared.answer.Reason.TheVariants.{Disjoint}
 use Rattle.tw_types.specs.Process.{Timing}
 use Rattle.tw_machine.specs.Event.{Event, Tick, Packet, Reference, Send}

@@ -2,11 +2,7 @@
 -- The laws on groups speak of these lists at one moment; no contract of a function that runs reads them.
 use Rattle.std.specs.Prelude.{ℕ, suc, ◌+◌, ◌==◌, Bool, true, false, ◌&&◌, if◌then◌else◌, List, [], ◌∷◌, ◌++◌, length, find, Option, Some, None}
 use Rattle.std.specs.Option.{option_map_or}
-use Rattle.tw_types.specs.declared.team.Team.{Team}
-use Rattle.tw_types.specs.declared.message.Member.{Member}
-use Rattle.tw_types.specs.declared.message.Kept.{Kept}
-use Rattle.tw_types.specs.declared.message.Decision.{Decision}
-use Rattle.tw_types.specs.declared.step.Step.{Step}
+use Rattle.tw_machine.specs.Types.{Team, Member, Kept, Decision, Step}
 use Rattle.tw_types.specs.Votes.{Promise, Making}
 use Rattle.tw_types.specs.Process.{Process}
 use Rattle.tw_types.specs.Sends.{Sending}

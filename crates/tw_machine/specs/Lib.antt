@@ -30,3 +30,4 @@ pub mod Started
 pub mod SafeRows
 pub mod ClockLaw
 pub mod RowLimits
+pub mod Types

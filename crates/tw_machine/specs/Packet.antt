@@ -1,24 +1,15 @@
 -- Which packets a process takes.
 use Rattle.std.specs.Prelude.{ℕ, nat_lt, ◌==◌, Bool, true, false, not, ◌||◌, if◌then◌else◌, Result, Ok, Err}
-use Rattle.tw_types.specs.declared.datagram.Head.{Head}
-use Rattle.tw_types.specs.declared.datagram.Body.{Body}
+use Rattle.tw_machine.specs.Types.{Head, Body, Datagram, WireFault, Reason}
 use Rattle.tw_types.specs.declared.datagram.Body.TheVariants as bodies
-use Rattle.tw_types.specs.declared.datagram.Datagram.{Datagram}
-use Rattle.tw_types.specs.declared.datagram.WireFault.{WireFault}
 use Rattle.tw_types.specs.declared.datagram.WireFault.TheVariants.{Kind}
-use Rattle.tw_types.specs.declared.answer.Reason.{Reason}
 use Rattle.tw_types.specs.declared.answer.Reason.TheVariants.{Wire, Stranger}
 
 -- the datagrams that a process takes today
 abbrev pub is_taken : Body → Bool
-is_taken (bodies.Update kept) = true
-is_taken (bodies.Decision d) = true
 is_taken (bodies.NoDecision number group turn skip reports best) = false
-is_taken (bodies.Election number why) = true
-is_taken (bodies.Promise number report d) = true
-is_taken (bodies.Ask want) = true
 is_taken (bodies.State group position total offset bytes) = false
-is_taken (bodies.Sync ready) = true
+is_taken body = true
 
 -- the sender is no other process of the n in the team, or the datagram isn't for this one
 abbrev pub is_stranger : ℕ → ℕ → Head → Bool

@@ -1,13 +1,8 @@
 -- The rule of a send.
 use Rattle.std.specs.Prelude.{ℕ, ◌+◌, unwrap_or, List, [], ◌∷◌, ◌++◌, length, find, Option, Some, None}
 use Rattle.tw_num.specs.declared.moment.Moment.{Moment}
-use Rattle.tw_types.specs.declared.team.Team.{Team}
-use Rattle.tw_types.specs.declared.message.Order.{Order}
-use Rattle.tw_types.specs.declared.message.Atom.{Atom}
-use Rattle.tw_types.specs.declared.message.Kept.{Kept}
-use Rattle.tw_types.specs.declared.message.Seat.{Seat}
+use Rattle.tw_machine.specs.Types.{Team, Order, Atom, Kept, Seat, ProposeFault}
 use Rattle.tw_types.specs.declared.datagram.Body.TheVariants as bodies
-use Rattle.tw_types.specs.declared.answer.ProposeFault.{ProposeFault}
 use Rattle.tw_types.specs.Beliefs.{view_decision}
 use Rattle.tw_types.specs.Decisions.{or_none, is_seat_of}
 use Rattle.tw_types.specs.Flag.{is_up}

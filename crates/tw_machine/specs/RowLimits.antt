@@ -1,13 +1,9 @@
 -- The rows that can be printed: their numbers have room, and their payloads are bytes.
 use Rattle.std.specs.Prelude.{ℕ, ◌<◌, ◌^◌, Option, Some, None}
 use Rattle.std.specs.List.{AllByRecursion}
-use Rattle.tw_types.specs.declared.message.UpdateId.{UpdateId}
-use Rattle.tw_types.specs.declared.message.Member.{Member}
-use Rattle.tw_types.specs.declared.datagram.WireFault.{WireFault}
+use Rattle.tw_machine.specs.Types.{UpdateId, Member, WireFault, Reason, RowAnswer}
 use Rattle.tw_types.specs.declared.datagram.WireFault.TheVariants.{Field}
-use Rattle.tw_types.specs.declared.answer.Reason.{Reason}
 use Rattle.tw_types.specs.declared.answer.Reason.TheVariants as reasons
-use Rattle.tw_types.specs.declared.row.RowAnswer.{RowAnswer}
 use Rattle.tw_types.specs.declared.row.RowAnswer.TheVariants.{Sent, Dropped}
 use Rattle.tw_types.specs.Contents.{Contents, Update, Decision, NoDecision, Election, Promise, Ask, State, Sync}
 use Rattle.tw_types.specs.Row.{Made, Pass, Sending, Entry, Row}

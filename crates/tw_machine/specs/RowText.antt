@@ -3,18 +3,12 @@ use Rattle.std.specs.Prelude.{ℕ, Bool, true, false, List, [], ◌∷◌, ◌++
 use Rattle.std.specs.List.{join_with_byte, flat_map}
 use Rattle.std.specs.Fmt.{decimal}
 use Rattle.tw_machine.specs.Grammar.{order_word, atom_word, hex_word}
-use Rattle.tw_types.specs.declared.message.UpdateId.{UpdateId}
+use Rattle.tw_machine.specs.Types.{UpdateId, WireFault, ProposeFault, Reason, RowAnswer, Member, How}
 use Rattle.tw_types.specs.Contents.{Contents, Update, Decision, NoDecision, Election, Promise, Ask, State, Sync}
-use Rattle.tw_types.specs.declared.datagram.WireFault.{WireFault}
 use Rattle.tw_types.specs.declared.datagram.WireFault.TheVariants.{Short, Long, Version, Line, Kind, Field}
-use Rattle.tw_types.specs.declared.answer.ProposeFault.{ProposeFault}
 use Rattle.tw_types.specs.declared.answer.ProposeFault.TheVariants.{TooLong, NotUpToDate, Full, Spent}
-use Rattle.tw_types.specs.declared.answer.Reason.{Reason}
 use Rattle.tw_types.specs.declared.answer.Reason.TheVariants.{Wire, Stranger, Disjoint, Unrated, Unsynced, Old, NotMember, Promised, Quarantine, OutOfWindow, Unwilling, Gap, Behind, Missing, Foreign, NotHeld}
-use Rattle.tw_types.specs.declared.row.RowAnswer.{RowAnswer}
 use Rattle.tw_types.specs.declared.row.RowAnswer.TheVariants.{Start, Crash, Look, Done, Sent, Refused, Dropped}
-use Rattle.tw_types.specs.declared.message.Member.{Member}
-use Rattle.tw_types.specs.declared.outputs.How.{How}
 use Rattle.tw_types.specs.declared.outputs.How.TheVariants.{Now, Earlier}
 use Rattle.tw_types.specs.Row.{Made, Pass, Sending, Entry, Row}
 use Rattle.tw_types.specs.Row as row

@@ -1,13 +1,8 @@
 -- The rows of a schedule, by the world before and after each step.
 use Rattle.std.specs.Prelude.{ℕ, ◌+◌, false, List, [], ◌∷◌, ◌++◌, length, Option, Some, None}
 use Rattle.std.specs.Option.{option_map_or}
-use Rattle.tw_types.specs.declared.team.Team.{Team}
-use Rattle.tw_types.specs.declared.step.Act.{Act}
+use Rattle.tw_machine.specs.Types.{Team, Act, Step, View, RowLine, RowAnswer}
 use Rattle.tw_types.specs.declared.step.Act.TheVariants.{Look}
-use Rattle.tw_types.specs.declared.step.Step.{Step}
-use Rattle.tw_types.specs.declared.outputs.View.{View}
-use Rattle.tw_types.specs.declared.row.RowLine.{RowLine}
-use Rattle.tw_types.specs.declared.row.RowAnswer.{RowAnswer}
 use Rattle.tw_types.specs.Process.{Process}
 use Rattle.tw_types.specs.Row.{Row}
 use Rattle.tw_types.specs.Printed.{row_printed}

@@ -1,12 +1,8 @@
 -- What a packet that was heard makes of a process, kind by kind.
 use Rattle.std.specs.Prelude.{Option, Some, None, Result, Ok, Err}
 use Rattle.tw_num.specs.declared.moment.Moment.{Moment}
-use Rattle.tw_types.specs.declared.team.Team.{Team}
-use Rattle.tw_types.specs.declared.datagram.Head.{Head}
-use Rattle.tw_types.specs.declared.datagram.Body.{Body}
+use Rattle.tw_machine.specs.Types.{Team, Head, Body, Datagram, Reason}
 use Rattle.tw_types.specs.declared.datagram.Body.TheVariants as bodies
-use Rattle.tw_types.specs.declared.datagram.Datagram.{Datagram}
-use Rattle.tw_types.specs.declared.answer.Reason.{Reason}
 use Rattle.tw_machine.specs.Run.{Run, Ruled, done, dropped}
 use Rattle.tw_machine.specs.Control.{if_timely}
 use Rattle.tw_machine.specs.Taking.{take_decision}

@@ -1,15 +1,9 @@
 -- The run of one event through the parts of a step.
 use Rattle.std.specs.Prelude.{ℕ, List, [], ◌++◌, Option, Some, None}
-use Rattle.tw_types.specs.declared.datagram.Datagram.{Datagram}
-use Rattle.tw_types.specs.declared.outputs.Outputs.{Outputs}
-use Rattle.tw_types.specs.declared.answer.ProposeFault.{ProposeFault}
-use Rattle.tw_types.specs.declared.answer.Reason.{Reason}
-use Rattle.tw_types.specs.declared.row.RowAnswer.{RowAnswer}
+use Rattle.tw_machine.specs.Types.{Datagram, Outputs, ProposeFault, Reason, RowAnswer, Kept, How}
 use Rattle.tw_types.specs.Outputs.{nothing}
 use Rattle.tw_types.specs.Process.{Process}
 use Rattle.tw_types.specs.Sends.{Sending}
-use Rattle.tw_types.specs.declared.message.Kept.{Kept}
-use Rattle.tw_types.specs.declared.outputs.How.{How}
 use Rattle.tw_types.specs.Votes.{Promise, Making}
 
 -- Where an update stood as it was delivered: it was passed at a position, in this way; or it went early, at a position of the list or while

@@ -2,14 +2,10 @@
 -- interval.
 use Rattle.std.specs.Prelude.{ℕ, ◌+◌, ◌/◌, ◌<◌, ◌≤◌, ◌≡◌, ◌≢◌, ◌↔◌, nat_eq, Bool, true, false, ◌&&◌, List, [], ◌∷◌, ◌++◌, map, length, Some, IsSomeAnd}
 use Rattle.std.specs.List.{filter, IsDistinct}
-use Rattle.tw_types.specs.declared.team.Team.{Team}
-use Rattle.tw_types.specs.declared.message.Order.{Order}
+use Rattle.tw_machine.specs.Types.{Team, Order, RowAnswer, Member, How}
 use Rattle.tw_types.specs.declared.message.Order.TheVariants.{Timed}
 use Rattle.tw_types.specs.declared.message.Atom.TheVariants.{Weak, Strong, Strict}
-use Rattle.tw_types.specs.declared.row.RowAnswer.{RowAnswer}
 use Rattle.tw_types.specs.Row.{Row, Update, Pass}
-use Rattle.tw_types.specs.declared.message.Member.{Member}
-use Rattle.tw_types.specs.declared.outputs.How.{How}
 use Rattle.tw_types.specs.declared.outputs.How.TheVariants.{Now, Earlier, Late}
 use Rattle.tw_machine.specs.Places.{Each, Exists, Below}
 use Rattle.tw_machine.specs.Started.{started_at, members_of}

@@ -3,9 +3,7 @@ use Rattle.std.specs.Prelude.{ℕ, ◌^◌, nat_lt, ◌==◌, not, if◌then◌e
 use Rattle.std.specs.List.{filter, range_with_len}
 use Rattle.tw_num.specs.declared.interval.Interval.{Interval}
 use Rattle.tw_num.specs.declared.moment.Moment.{Moment}
-use Rattle.tw_types.specs.declared.datagram.Head.{Head}
-use Rattle.tw_types.specs.declared.datagram.Body.{Body}
-use Rattle.tw_types.specs.declared.datagram.Datagram.{Datagram}
+use Rattle.tw_machine.specs.Types.{Head, Body, Datagram}
 use Rattle.tw_types.specs.Process.{Identity, Timing}
 use Rattle.tw_machine.specs.Run.{Run, with_sends}
 

@@ -1,8 +1,6 @@
 -- What a process is in its group, and what it reports of itself.
 use Rattle.std.specs.Prelude.{ℕ, Bool, false, ◌||◌, if◌then◌else◌, Option, Some, None}
-use Rattle.tw_types.specs.declared.message.Member.{Member}
-use Rattle.tw_types.specs.declared.message.Report.{Report}
-use Rattle.tw_types.specs.declared.message.Decision.{Decision}
+use Rattle.tw_machine.specs.Types.{Member, Report, Decision}
 use Rattle.tw_types.specs.Votes.{Promise}
 use Rattle.tw_types.specs.Beliefs.{is_informed, last_of}
 use Rattle.tw_types.specs.Reports.{report_of}

@@ -2,13 +2,8 @@
 use Rattle.std.specs.Prelude.{ℕ, Bool, true, false, if◌then◌else◌, Option, Some, None, Result}
 use Rattle.tw_num.specs.Clock.{reading_at, moment_at}
 use Rattle.tw_num.specs.declared.moment.Moment.{Moment}
-use Rattle.tw_types.specs.declared.team.Team.{Team}
-use Rattle.tw_types.specs.declared.answer.Reason.{Reason}
-use Rattle.tw_types.specs.declared.answer.Answer.{Answer}
+use Rattle.tw_machine.specs.Types.{Team, Reason, Answer, Datagram, RowAnswer, View}
 use Rattle.tw_types.specs.declared.answer.Answer.TheVariants.{Done, Dropped}
-use Rattle.tw_types.specs.declared.datagram.Datagram.{Datagram}
-use Rattle.tw_types.specs.declared.row.RowAnswer.{RowAnswer}
-use Rattle.tw_types.specs.declared.outputs.View.{View}
 use Rattle.tw_types.specs.Process.{Process}
 use Rattle.tw_types.specs.Beliefs.{log_length}
 use Rattle.tw_types.specs.Decisions.{or_none}

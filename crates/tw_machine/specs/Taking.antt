@@ -1,8 +1,7 @@
 -- The rule of a decision that is received in time.
 use Rattle.std.specs.Prelude.{not, List, [], ◌∷◌, ◌++◌, Option, Some, None}
 use Rattle.tw_num.specs.declared.moment.Moment.{Moment}
-use Rattle.tw_types.specs.declared.message.Decision.{Decision}
-use Rattle.tw_types.specs.declared.answer.Reason.{Reason}
+use Rattle.tw_machine.specs.Types.{Decision, Reason}
 use Rattle.tw_types.specs.declared.answer.Reason.TheVariants.{NotMember}
 use Rattle.tw_types.specs.Refusals.{Refusal, first_refusal}
 use Rattle.tw_types.specs.Beliefs.{is_informed, view_decision}

@@ -1,10 +1,7 @@
 -- Updates that come, those that are asked for, and what becomes of a held decision once all of its payloads are there.
 use Rattle.std.specs.Prelude.{ℕ, ◌==◌, Bool, not, ◌||◌, if◌then◌else◌, ◌++◌, Option, Some, None}
 use Rattle.tw_num.specs.declared.moment.Moment.{Moment}
-use Rattle.tw_types.specs.declared.message.UpdateId.{UpdateId}
-use Rattle.tw_types.specs.declared.message.Kept.{Kept}
-use Rattle.tw_types.specs.declared.message.Decision.{Decision}
-use Rattle.tw_types.specs.declared.datagram.Want.{Want}
+use Rattle.tw_machine.specs.Types.{UpdateId, Kept, Decision, Want}
 use Rattle.tw_types.specs.declared.datagram.Want.TheVariants as wants
 use Rattle.tw_types.specs.declared.datagram.Body.TheVariants as bodies
 use Rattle.tw_types.specs.declared.answer.Reason.TheVariants.{Old, NotMember, OutOfWindow, NotHeld}

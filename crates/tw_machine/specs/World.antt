@@ -1,14 +1,10 @@
 -- What a schedule makes of the processes. A schedule is a list of steps of processes, the newest first, so what stands behind a step is
 -- its past. A datagram is lost where no step receives it, and repeated where two do. The timed model is Cristian and Fetzer's.
 use Rattle.std.specs.Prelude.{ℕ, ◌≡◌, ◌==◌, if◌then◌else◌, List, [], ◌∷◌, ◌++◌, map, Option, Some, None, Ok}
-use Rattle.tw_types.specs.declared.team.Team.{Team}
+use Rattle.tw_machine.specs.Types.{Team, Act, Step, RowAnswer, Outputs}
 use Rattle.tw_types.specs.Numbered.{numbered}
 use Rattle.tw_types.specs.Votes.{Promise, Making}
-use Rattle.tw_types.specs.declared.step.Act.{Act}
-use Rattle.tw_types.specs.declared.step.Step.{Step}
 use Rattle.tw_types.specs.declared.step.Act.TheVariants.{First, Again, Crash, Tick, Recv, Send, Reference, Look}
-use Rattle.tw_types.specs.declared.row.RowAnswer.{RowAnswer}
-use Rattle.tw_types.specs.declared.outputs.Outputs.{Outputs}
 use Rattle.tw_types.specs.declared.outputs.Mode.TheVariants as modes
 use Rattle.tw_types.specs.Outputs.{nothing}
 use Rattle.tw_types.specs.Process.{Process, started}

@@ -3,7 +3,7 @@
 use crate::Interval;
 
 /// What a process's own clock tells it at one moment.
-#[derive(Clone, Copy, Debug, PartialEq, Eq)]
+#[derive(Clone, Copy)]
 pub struct Moment {
     /// The reading of its hardware clock, in ticks.
     pub h: u64,

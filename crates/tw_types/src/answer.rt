@@ -43,7 +43,7 @@ pub enum Reason {
 }
 
 /// Why a send of an update is refused.
-#[derive(Clone, Copy, PartialEq, Eq)]
+#[derive(Clone, Copy)]
 pub enum ProposeFault {
     /// The payload has more than 128 bytes.
     TooLong,
@@ -56,7 +56,7 @@ pub enum ProposeFault {
 }
 
 /// How an event ended.
-#[derive(Clone, Copy, Debug, PartialEq, Eq)]
+#[derive(Clone, Copy, Debug)]
 pub enum Answer {
     Done,
     Dropped(Reason),

@@ -4,7 +4,7 @@ use crate::message::{Decision, Report};
 use arrayvec::ArrayVec;
 
 /// Promises of one number, which its owner collects to make a group of them.
-#[derive(Debug, Drop)]
+#[derive(Drop)]
 pub struct Ballot {
     /// The number of the group that may be made, at least 1, below 2^60.
     pub number: u64,

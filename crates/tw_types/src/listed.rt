@@ -9,7 +9,7 @@ use std::marker::Model;
 use tw_num::WantOfMemory;
 
 /// A list of at most `N` items, whose room was taken when it was made. Contracts see it as the list of its items.
-#[derive(Debug, Drop)]
+#[derive(Drop)]
 pub struct Listed<T, const N: usize> {
     /// Its items, and behind them some that were taken out, whose places are used again.
     items: Vec<T>,

@@ -18,7 +18,7 @@ pub enum How {
 }
 
 /// A position of the list that was passed, with the update that stands there.
-#[derive(Debug, Drop)]
+#[derive(Drop)]
 pub struct Pass {
     /// Counted from 0.
     pub position: u64,
@@ -27,7 +27,7 @@ pub struct Pass {
 }
 
 /// How a process is started.
-#[derive(Clone, Copy, Debug, PartialEq, Eq)]
+#[derive(Clone, Copy)]
 pub enum Mode {
     /// For the first time: it knows of no group since there was none.
     First,
@@ -36,7 +36,7 @@ pub enum Mode {
 }
 
 /// What a process says of itself.
-#[derive(Clone, Copy, Debug, PartialEq, Eq)]
+#[derive(Clone, Copy)]
 pub struct View {
     /// The reading of its hardware clock at the start of this life, in ticks.
     pub incarnation: u64,
@@ -62,7 +62,7 @@ pub type Passes = Listed<Pass, 64>;
 pub type Earlies = Listed<Kept, 192>;
 
 /// What an event of a process gives: the decision that it made, the datagrams that it sends, and its deliveries.
-#[derive(Debug, Drop)]
+#[derive(Drop)]
 pub struct Outputs {
     pub made: Option<Decision>,
     pub sends: Sends,

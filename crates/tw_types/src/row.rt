@@ -9,7 +9,7 @@ use std::mem;
 use tw_num::WantOfMemory;
 
 /// How a step ended.
-#[derive(Clone, Copy, PartialEq, Eq)]
+#[derive(Clone, Copy)]
 pub enum RowAnswer {
     /// A start.
     Start,
@@ -28,7 +28,7 @@ pub enum RowAnswer {
 }
 
 /// The first line of a row.
-#[derive(Clone, Copy, PartialEq, Eq)]
+#[derive(Clone, Copy)]
 pub struct RowLine {
     /// The number of the step, counted from 1.
     pub step: u32,

@@ -42,7 +42,7 @@ pub struct Step {
 }
 
 /// Why a line of a schedule can't be taken, in the order in which the causes are looked for.
-#[derive(Clone, Copy, Debug, PartialEq, Eq)]
+#[derive(Clone, Copy, Debug)]
 pub enum Cause {
     /// The line isn't of the schedule's form.
     Grammar,

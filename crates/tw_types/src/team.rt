@@ -4,7 +4,7 @@ ghost use Rattle.std.specs.Prelude.{◌≡◌, ◌+◌, ◌/◌};
 
 /// A fixed team of processes and its times, in microseconds of team time where nothing else is said. The names follow
 /// Mishra, Fetzer and Cristian's Timewheel and Cristian and Fetzer's timed asynchronous model.
-#[derive(Clone, Copy, Debug, PartialEq, Eq)]
+#[derive(Clone, Copy, Debug)]
 pub struct Team {
     /// How many processes there are, 3 to 15. They are named 0 to `n - 1`.
     pub n: u8,

@@ -21,7 +21,7 @@ use tw_num::WantOfMemory;
 use tw_types::{Decision, Kept, Listed, Payloads, UpdateId};
 
 /// A decision that isn't taken yet, since payloads are missing.
-#[derive(Debug, Drop)]
+#[derive(Drop)]
 struct HeldDecision {
     decision: Decision,
     /// Payloads are wanted from this position of the list on.
@@ -32,7 +32,7 @@ struct HeldDecision {
 
 /// What waits at a process of a team: updates that have no place in the list yet, and at most one held decision with the
 /// payloads that are kept for it.
-#[derive(Debug, Drop)]
+#[derive(Drop)]
 pub struct Store {
     n: u8,
     pending: Pending,

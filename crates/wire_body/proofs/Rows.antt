@@ -17,11 +17,21 @@ module _ {X : Type 0} (size : ℕ) (item_at : List X → List ℕ → ℕ → Re
       let next : place + size * i + size ≡ place + size * (i + 1) = grind arith in
       rw (k, next) refl
 
+  -- where the next item is read, those behind it decide
+  pub items_on : (before : List X) (count i place : ℕ) (x : X) {read : Result X WireFault} {all : Result (List X) WireFault} → i < count → read ≡ item_at before bytes (place + size * i) → read ≡ Ok x → items_at size item_at (count - i) before bytes (place + size * i) ≡ all → items_at size item_at (count - (i + 1)) (before ++ x ∷ []) bytes (place + size * (i + 1)) ≡ all
+  items_on before count i place x lt is e rest =
+      let on : items_at size item_at (count - i) before bytes (place + size * i) ≡ items_at size item_at (count - (i + 1)) (before ++ x ∷ []) bytes (place + size * (i + 1)) = items_more before count i place lt ∙ rw (sym is ∙ e) refl in
+      sym on ∙ rest
+
   pub items_end : (before : List X) (count i place : ℕ) → count ≤ i → items_at size item_at (count - i) before bytes place ≡ Ok before
   unfolding items_at
   items_end before count i place le =
       let k : count - i ≡ 0 = omega arith in
       rw k refl
+
+  -- where none is left, those that were read are all
+  pub items_all : (before : List X) (count i place : ℕ) {all : Result (List X) WireFault} → count ≤ i → items_at size item_at (count - i) before bytes place ≡ all → all ≡ Ok before
+  items_all before count i place le rest = sym rest ∙ items_end before count i place le
 
 -- one item more was written
 pub written_item : {X : Type 0} (f : X → List ℕ) (old : List ℕ) (place : ℕ) (items : List X) (i : ℕ) (x : X) (mid : List ℕ) (between : ℕ) (new : List ℕ) (end : ℕ) → i < length items → x ≡ get_or items i x → Writes old place (flat_map f (take i items)) mid between → Writes mid between (f x) new end → Writes old place (flat_map f (take (i + 1) items)) new end

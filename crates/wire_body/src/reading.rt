@@ -1,16 +1,17 @@
 //! Reading a whole datagram.
 
-ghost use Rattle.std.specs.Prelude.{◌≡◌, ◌+◌, ◌<◌, ◌≤◌, ◌^◌, ◌++◌, ℕ, List, length, nat_le, None, IfOk, OnOk, Ok, Err};
+ghost use Rattle.std.specs.Prelude.{◌≡◌, ◌==◌, min, ◌+◌, ◌-◌, ◌<◌, ◌≤◌, ◌^◌, ◌++◌, ℕ, List, length, nat_le, None, IfOk, OnOk, Ok, Err};
 ghost use Rattle.tw_types.specs.declared.datagram.Body.TheVariants as bodies;
 ghost use Rattle.tw_types.specs.declared.datagram.Datagram.{Datagram};
 ghost use Rattle.tw_types.specs.declared.datagram.WireFault.TheVariants.{Short, Long, Kind};
 ghost use Rattle.tw_types.specs.Team.{IsSound};
 ghost use Rattle.tw_types.specs.Ranges.{DatagramFits};
 ghost use Rattle.tw_types.specs.Spelling.{spelling};
-ghost use Rattle.wire_head.specs.Reading.{where_allowed};
-ghost use Rattle.wire_body.specs.Lists.{Leaves};
+ghost use Rattle.std.specs.Int.{w16};
+ghost use Rattle.wire_head.specs.Reading.{field_at, text_at, where_allowed};
+ghost use Rattle.wire_body.specs.Lists.{counted_at, Leaves};
 ghost use Rattle.wire_body.specs.Decisions.{decision_at, decision_size};
-ghost use Rattle.wire_body.specs.Reading.{update_at, why_at, election_at, election_of, wanted_at, want_at, want_end, piece_at, state_of, ready_at, sync_at, in_body, body_at, whole, datagram_at, blank};
+ghost use Rattle.wire_body.specs.Reading.{update_at, why_at, election_at, election_of, wanted_at, want_at, want_end, is_total, is_offset_below, piece_at, state_of, ready_at, sync_at, in_body, body_at, whole, datagram_at, blank};
 
 use crate::decisions::{decision_size, fill_decision};
 use crate::entries::{entry_at, id_at};
@@ -71,7 +72,56 @@ fn want_at(n: u8, bytes: &[u8]) -> Result<Want, WireFault>
     }
 }
 
-#[tactic(auto, unfolding(crate::specs::Reading::piece_at, crate::specs::Lists::counted_at, wire_head::specs::Reading::checked_at))]
+/// The bytes of the whole state, of which a piece is a part.
+#[tactic(auto, unfolding(wire_head::specs::Reading::checked_at))]
+fn total_at(bytes: &[u8]) -> Result<u16, WireFault>
+    ensures { result ≡ field_at w16 is_total bytes.now 73 }
+{
+    let total = u16_at(bytes, 73)?;
+    where_allowed(1 <= total && total <= 4096, total, 73)
+}
+
+/// Where in the state the piece begins.
+#[tactic(auto, unfolding(wire_head::specs::Reading::checked_at))]
+fn offset_at(total: u16, bytes: &[u8]) -> Result<u16, WireFault>
+    ensures exact { result ≡ field_at w16 (is_offset_below total) bytes.now 75 }
+    ensures within { IfOk result (λ offset. offset < total) }
+{
+    let offset = u16_at(bytes, 75)?;
+    where_allowed(offset < total && offset % 1024 == 0, offset, 75)
+}
+
+/// Makes a list the bytes of a piece, where so many of the state are left, in place of those that it held.
+#[tactic(auto, unfolding(crate::specs::Lists::counted_at, wire_head::specs::Reading::checked_at))]
+fn fill_text(left: u16, bytes: &[u8], piece: &mut ArrayVec<u8, 1024>) -> Result<(), WireFault>
+    ensures { Leaves result piece.new.items (counted_at w16 (λ l. l == min 1024 left) text_at bytes.now 77) }
+{
+    let size = u16_at(bytes, 77)?;
+    where_allowed(size == left.min(1024), (), 77)?;
+    let text = text_at(size.into(), bytes, 79)?;
+    fill_bytes(text, piece);
+    Ok(())
+}
+
+/// Makes the parts of a state the ones that the bytes spell, in place of those that were there.
+#[tactic(auto, unfolding(crate::specs::Reading::piece_at))]
+fn fill_piece(
+    bytes: &[u8],
+    group: &mut u64,
+    position: &mut u64,
+    total: &mut u16,
+    offset: &mut u16,
+    piece: &mut ArrayVec<u8, 1024>,
+) -> Result<(), WireFault>
+    ensures { Leaves result (record { group = group.new; position = position.new; total = total.new; offset = offset.new; bytes = piece.new.items }) (piece_at bytes.now) }
+{
+    *group = positive_at(bytes, 57)?;
+    *position = count_at(bytes, 65)?;
+    *total = total_at(bytes)?;
+    *offset = offset_at(*total, bytes)?;
+    fill_text(*total - *offset, bytes, piece)
+}
+
 #[inline(never)]
 fn state_in(head: &Head, bytes: &[u8], datagram: &mut Datagram) -> Result<(), WireFault>
     ensures { Leaves result datagram.new (whole head.now bytes.now (in_body state_of (λ p. 79 + length p.bytes) (piece_at bytes.now))) }
@@ -94,17 +144,8 @@ fn state_in(head: &Head, bytes: &[u8], datagram: &mut Datagram) -> Result<(), Wi
             offset,
             bytes: piece,
         } => {
-            *group = positive_at(bytes, 57)?;
-            *position = count_at(bytes, 65)?;
-            *total = u16_at(bytes, 73)?;
-            where_allowed(1 <= *total && *total <= 4096, (), 73)?;
-            *offset = u16_at(bytes, 75)?;
-            where_allowed(*offset < *total && *offset % 1024 == 0, (), 75)?;
-            let size = u16_at(bytes, 77)?;
-            where_allowed(size == (*total - *offset).min(1024), (), 77)?;
-            let text = text_at(size.into(), bytes, 79)?;
-            fill_bytes(text, piece);
-            ends_at(bytes, 79 + text.len())
+            fill_piece(bytes, group, position, total, offset, piece)?;
+            ends_at(bytes, 79 + piece.len())
         }
         _ => Err(WireFault::Kind),
     }

@@ -2,13 +2,8 @@
 use Rattle.std.proofs.Common.{◌≡◌, refl, sym, ap, subst, ◌∙◌, ℕ, true, false, List, [], Option, Some, None, IsSome, Ok}
 use Rattle.std.specs.Option.{option_map, option_map_or}
 use Rattle.tw_num.specs.Clock.{IsNotBefore}
-use Rattle.tw_types.specs.declared.team.Team.{Team}
-use Rattle.tw_types.specs.declared.datagram.Datagram.{Datagram}
-use Rattle.tw_types.specs.declared.outputs.View.{View}
-use Rattle.tw_types.specs.declared.outputs.Outputs.{Outputs}
+use Rattle.tw_machine.specs.Types.{Team, Datagram, View, Outputs, RowAnswer, Act}
 use Rattle.tw_types.specs.declared.outputs.Mode.TheVariants as modes
-use Rattle.tw_types.specs.declared.row.RowAnswer.{RowAnswer}
-use Rattle.tw_types.specs.declared.step.Act.{Act}
 use Rattle.tw_types.specs.declared.step.Act.TheVariants.{First, Again, Crash, Tick, Recv, Send, Reference, Look}
 use Rattle.tw_types.specs.Outputs.{nothing}
 use Rattle.tw_types.specs.Process.{Process, started}

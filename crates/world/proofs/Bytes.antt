@@ -8,25 +8,14 @@ use Rattle.std.proofs.Math.Seq.{drop-append_seam, take-suc}
 use Rattle.std.proofs.lemmas.List.{map-append}
 use Rattle.std.proofs.lemmas.Option.{slice_get-map}
 use Rattle.tw_types.specs.Numbered.{numbered}
-use Rattle.tw_types.specs.declared.step.Act.{Act}
+use Rattle.tw_machine.specs.Types.{Act, Step}
 use Rattle.tw_types.specs.declared.step.Act.TheVariants.{Recv}
-use Rattle.tw_types.specs.declared.step.Step.{Step}
 use Rattle.tw_machine.specs.Admissible.{was_sent_to, may_receive}
 use Rattle.tw_machine.specs.Dispatches.{Dispatch}
 use Rattle.world.specs.declared.sent.Place.{Place}
 use Rattle.world.specs.Places.{is_within, are_within}
 use Rattle.world.specs.Datagrams.{at_place, is_to, kept_as}
-
-and_left : (a b : Bool) → (a && b) ≡ true → a ≡ true
-and_left true b e = refl
-and_left false b e = e
-
-and_right : (a b : Bool) → (a && b) ≡ true → b ≡ true
-and_right true b e = e
-and_right false b e = absurd (cc)
-
-and_both : (a b : Bool) → a ≡ true → b ≡ true → (a && b) ≡ true
-and_both a b p q = rw (p, q) refl
+use Rattle.std.proofs.lemmas.Bool.{and_parts, and_from}
 
 -- what was written at the front
 pub written_first : (new text rest : List ℕ) (n : ℕ) → new ≡ text ++ rest → n ≡ length text → take n new ≡ text
@@ -38,18 +27,18 @@ appended (Ok u) old more new ok e = e
 appended (Err x) old more new ok e = absurd (cc)
 
 wider : (size more : ℕ) (p : Place) → size ≤ more → is_within size p ≡ true → is_within more p ≡ true
-wider size more p low e = let a = and_left (nat_le p.start p.end) _ e in let b = and_right (nat_le p.start p.end) _ e in and_both _ _ a (go b)
+wider size more p low e = let a = (and_parts (nat_le p.start p.end) _ e).0 in let b = (and_parts (nat_le p.start p.end) _ e).1 in and_from _ _ a (go b)
   where
     go : nat_le p.end size ≡ true → nat_le p.end more ≡ true
     go b = grind (arith, nat_tests)
 
 -- a place more among more bytes
 pub within_push : (size more : ℕ) (places : List Place) (p : Place) → size ≤ more → are_within size places ≡ true → is_within more p ≡ true → are_within more (places ++ p ∷ []) ≡ true
-within_push size more [] p low all one = and_both _ _ one refl
-within_push size more (q ∷ places) p low all one = and_both _ _ (wider size more q low (and_left (is_within size q) _ all)) (within_push size more places p low (and_right (is_within size q) _ all) one)
+within_push size more [] p low all one = and_from _ _ one refl
+within_push size more (q ∷ places) p low all one = and_from _ _ (wider size more q low (and_parts (is_within size q) _ all).0) (within_push size more places p low (and_parts (is_within size q) _ all).1 one)
 
 pub is_place : (start end size : ℕ) (p : Place) → p.start ≡ start → p.end ≡ end → start ≤ end → end ≤ size → is_within size p ≡ true
-is_place start end size p s e low high = and_both (nat_le p.start p.end) (nat_le p.end size) (let l : p.start ≤ p.end = omega arith in grind (arith, nat_tests)) (let h : p.end ≤ size = omega arith in grind (arith, nat_tests))
+is_place start end size p s e low high = and_from (nat_le p.start p.end) (nat_le p.end size) (let l : p.start ≤ p.end = omega arith in grind (arith, nat_tests)) (let h : p.end ≤ size = omega arith in grind (arith, nat_tests))
 
 -- bytes that come later change nothing at a place
 same_bytes : (bytes more : List ℕ) (a b : ℕ) → a ≤ b → b ≤ length bytes → slice_range (bytes ++ more) a b ≡ slice_range bytes a b
@@ -67,12 +56,12 @@ pub kept_push : (bytes more : List ℕ) (places : List Place) (p : Place) → ar
     → map (at_place (bytes ++ more)) (places ++ p ∷ []) ≡ map (at_place bytes) places ++ (p.to, more) ∷ []
 kept_push bytes more [] p all s e = ap (λ (xs : List ℕ). (p.to, xs) ∷ []) (rw (s, e) (new_bytes bytes more))
 kept_push bytes more (q ∷ places) p all s e =
-    let here = and_left (is_within (length bytes) q) _ all in
-    let low = and_left (nat_le q.start q.end) _ here in
-    let high = and_right (nat_le q.start q.end) _ here in
+    let here = (and_parts (is_within (length bytes) q) _ all).0 in
+    let low = (and_parts (nat_le q.start q.end) _ here).0 in
+    let high = (and_parts (nat_le q.start q.end) _ here).1 in
     let l : q.start ≤ q.end = starts low in
     let h : q.end ≤ length bytes = ends high in
-    cons_alike _ _ _ _ (ap (λ (xs : List ℕ). (q.to, xs)) (same_bytes bytes more q.start q.end l h)) (kept_push bytes more places p (and_right (is_within (length bytes) q) _ all) s e)
+    cons_alike _ _ _ _ (ap (λ (xs : List ℕ). (q.to, xs)) (same_bytes bytes more q.start q.end l h)) (kept_push bytes more places p (and_parts (is_within (length bytes) q) _ all).1 s e)
   where
     starts : nat_le q.start q.end ≡ true → q.start ≤ q.end
     starts x = grind (arith, nat_tests)
@@ -96,8 +85,8 @@ numbered_next (suc j) i xs e = let same : j ≡ i = omega arith in rw same refl
 
 pub all_get : (size : ℕ) (places : List Place) (i : ℕ) (p : Place) → are_within size places ≡ true → slice_get places i ≡ Some p → is_within size p ≡ true
 all_get size [] i p all e = absurd (cc)
-all_get size (q ∷ places) zero p all e = let same : q ≡ p = cc in rw (← same) (and_left (is_within size q) _ all)
-all_get size (q ∷ places) (suc i) p all e = all_get size places i p (and_right (is_within size q) _ all) e
+all_get size (q ∷ places) zero p all e = let same : q ≡ p = cc in rw (← same) (and_parts (is_within size q) _ all).0
+all_get size (q ∷ places) (suc i) p all e = all_get size places i p (and_parts (is_within size q) _ all).1 e
 
 abbrev receiver_of : Option (ℕ × List ℕ) → ℕ
 receiver_of None = 0

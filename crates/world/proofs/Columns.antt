@@ -1,10 +1,8 @@
 -- A column of the world is what its process makes of its own events.
 use Rattle.std.proofs.Common.{◌≡◌, refl, ap, ◌∙◌, ℕ, Bool, true, false, cond, nat_eq, List, [], ◌∷◌, Option, Some, None}
 use Rattle.std.specs.Option.{option_map}
-use Rattle.tw_types.specs.declared.step.Act.{Act}
+use Rattle.tw_machine.specs.Types.{Act, Step, Team}
 use Rattle.tw_types.specs.declared.step.Act.TheVariants.{First, Again, Crash, Tick, Recv, Send, Reference, Look}
-use Rattle.tw_types.specs.declared.step.Step.{Step}
-use Rattle.tw_types.specs.declared.team.Team.{Team}
 use Rattle.tw_types.specs.Numbered.{numbered}
 use Rattle.tw_types.specs.Process.{Process}
 use Rattle.tw_machine.specs.Dispatches.{Dispatch}

@@ -4,12 +4,9 @@ use Rattle.std.specs.Prelude.{is_some, nat_le, nat_lt}
 use Rattle.std.specs.List.{list_all, AllByRecursion}
 use Rattle.std.proofs.lemmas.Bool.Decides.{nat_tests}
 use Rattle.tw_num.specs.Clock.{Given, IsNotBefore}
-use Rattle.tw_types.specs.declared.team.Team.{Team}
+use Rattle.tw_machine.specs.Types.{Team, Cause, Act, Step}
 use Rattle.tw_types.specs.Numbered.{numbered}
-use Rattle.tw_types.specs.declared.step.Cause.{Cause}
 use Rattle.tw_types.specs.declared.step.Cause.TheVariants as causes
-use Rattle.tw_types.specs.declared.step.Act.{Act}
-use Rattle.tw_types.specs.declared.step.Step.{Step}
 use Rattle.tw_types.specs.declared.step.Act.TheVariants.{First, Again, Crash, Tick, Recv, Send, Reference, Look}
 use Rattle.tw_types.specs.Process.{Process}
 use Rattle.tw_machine.specs.Admissible.{cause_of, each_own, is_running, runs_after, is_start, keeps_drift, may_receive, may_start, holds_time}
@@ -26,14 +23,7 @@ use Rattle.world.specs.Readings.{Reading, readings_of, latest_of}
 use Rattle.world.specs.Tables.{Running}
 use Rattle.world.specs.StandsFor.{IsKnown, NodeStandsFor}
 use Rattle.world.proofs.Drift.{drift_by_bounds, above_by_bounds}
-
-and_left : (a b : Bool) → (a && b) ≡ true → a ≡ true
-and_left true b e = refl
-and_left false b e = e
-
-and_right : (a b : Bool) → (a && b) ≡ true → b ≡ true
-and_right true b e = e
-and_right false b e = absurd (cc)
+use Rattle.std.proofs.lemmas.Bool.{and_parts}
 
 both : (a b : Bool) → a ≡ true → b ≡ true → (a && b) ≡ true
 both a b p q = rw (p, q) refl
@@ -59,7 +49,7 @@ own_readings test who (s ∷ past) = readings_step test (nat_eq s.who who) s.t s
 -- none of the readings of a process comes after the last step
 readings_before : (who t : ℕ) (past : List Step) → list_all (λ (e : Step). nat_le e.t t) past ≡ true → AllByRecursion (λ (r : Reading). r.t ≤ t) (readings_of who past)
 readings_before who t [] all = tt
-readings_before who t (e ∷ past) all = go (nat_eq e.who who) (readings_before who t past (and_right (nat_le e.t t) _ all)) (and_left (nat_le e.t t) _ all)
+readings_before who t (e ∷ past) all = go (nat_eq e.who who) (readings_before who t past (and_parts (nat_le e.t t) _ all).1) (and_parts (nat_le e.t t) _ all).0
   where
     go : (own : Bool) → AllByRecursion (λ (r : Reading). r.t ≤ t) (readings_of who past) → nat_le e.t t ≡ true
         → AllByRecursion (λ (r : Reading). r.t ≤ t) (cond own (record { t = e.t; h = e.h } ∷ readings_of who past) (readings_of who past))
@@ -69,7 +59,7 @@ readings_before who t (e ∷ past) all = go (nat_eq e.who who) (readings_before 
 -- none of them is above a number where no step of the process is
 readings_below : (who h : ℕ) (past : List Step) → each_own (λ e. nat_le e.h h) who past ≡ true → AllByRecursion (λ (r : Reading). r.h ≤ h) (readings_of who past)
 readings_below who h [] all = tt
-readings_below who h (e ∷ past) all = go (nat_eq e.who who) (readings_below who h past (and_right (not (nat_eq e.who who) || nat_le e.h h) _ all)) (and_left (not (nat_eq e.who who) || nat_le e.h h) _ all)
+readings_below who h (e ∷ past) all = go (nat_eq e.who who) (readings_below who h past (and_parts (not (nat_eq e.who who) || nat_le e.h h) _ all).1) (and_parts (not (nat_eq e.who who) || nat_le e.h h) _ all).0
   where
     go : (own : Bool) → AllByRecursion (λ (r : Reading). r.h ≤ h) (readings_of who past) → (not own || nat_le e.h h) ≡ true
         → AllByRecursion (λ (r : Reading). r.h ≤ h) (cond own (record { t = e.t; h = e.h } ∷ readings_of who past) (readings_of who past))
@@ -91,7 +81,7 @@ times_before team sent past s none = met_first _ _ _ none
 all_up_to : (past : List Step) (t u : ℕ) → t ≤ u → list_all (λ (e : Step). nat_le e.t t) past ≡ true → list_all (λ (e : Step). nat_le e.t u) past ≡ true
 all_up_to [] t u low all = refl
 all_up_to (e ∷ past) t u low all =
-    both (nat_le e.t u) _ (later e.t (and_left (nat_le e.t t) _ all)) (all_up_to past t u low (and_right (nat_le e.t t) _ all))
+    both (nat_le e.t u) _ (later e.t (and_parts (nat_le e.t t) _ all).0) (all_up_to past t u low (and_parts (nat_le e.t t) _ all).1)
   where
     later : (x : ℕ) → nat_le x t ≡ true → nat_le x u ≡ true
     later x h = grind (arith, nat_tests)
@@ -188,11 +178,11 @@ received_before team sent past s none =
 not_after : (ppm : ℕ) (who : ℕ) (t h : ℕ) (past : List Step) → each_own (λ e. keeps_drift ppm e.t e.h t h) who past ≡ true → each_own (λ e. nat_le e.h h) who past ≡ true
 not_after ppm who t h [] all = refl
 not_after ppm who t h (e ∷ past) all =
-    both _ _ (own (not (nat_eq e.who who)) (and_left _ _ all)) (not_after ppm who t h past (and_right _ _ all))
+    both _ _ (own (not (nat_eq e.who who)) (and_parts _ _ all).0) (not_after ppm who t h past (and_parts _ _ all).1)
   where
     own : (other : Bool) → (other || keeps_drift ppm e.t e.h t h) ≡ true → (other || nat_le e.h h) ≡ true
     own true k = refl
-    own false k = and_left (nat_le e.h h) _ (and_left _ _ k)
+    own false k = (and_parts (nat_le e.h h) _ (and_parts _ _ k).0).0
 
 keeps_the_drift : (team : Team) (sent : List Dispatch) (past : List Step) (s : Step) → cause_of team sent past s ≡ None → each_own (λ e. keeps_drift team.ppm e.t e.h s.t s.h) s.who past ≡ true
 keeps_the_drift team sent past s none = met_first _ _ _ (met_rest (list_all (λ e. nat_le e.t s.t) past) _ _ none)
@@ -238,7 +228,7 @@ known_later : (team : Team) (past : List Step) (s : Step) → NotBefore s.h ((wo
 known_later team past s known = λ k all. later_not_before s.h k _ (below k all) (deed_not_before team s.who s.h (world team past).sent s.act ((world team past).process_of s.who) known)
   where
     below : (k : ℕ) → each_own (λ e. nat_le e.h k) s.who (s ∷ past) ≡ true → s.h ≤ k
-    below k all = go (rw (same_number s.who) at (and_left (not (nat_eq s.who s.who) || nat_le s.h k) _ all))
+    below k all = go (rw (same_number s.who) at (and_parts (not (nat_eq s.who s.who) || nat_le s.h k) _ all).0)
       where
         go : nat_le s.h k ≡ true → s.h ≤ k
         go e = grind (arith, nat_tests)
@@ -263,7 +253,7 @@ next_other team past s i p other stands = record {
   bounds = rw differs stands.bounds;
   started = rw differs stands.started;
   running = rw differs stands.running;
-  known = rw differs (λ k all. stands.known k (and_right (not false || nat_le s.h k) _ all));
+  known = rw differs (λ k all. stands.known k (and_parts (not false || nat_le s.h k) _ all).1);
 }
   where
     differs : nat_eq s.who i ≡ false

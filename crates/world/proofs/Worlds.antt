@@ -3,16 +3,12 @@ use Rattle.std.proofs.Common.{subst, ◌≡◌, ◌≢◌, ◌<◌, refl, sym, a
 use Rattle.std.specs.Prelude.{slice_get, IfErr}
 use Rattle.std.specs.List.{AllByRecursion}
 use Rattle.std.proofs.lemmas.List.{map-append, length-map}
-use Rattle.tw_types.specs.declared.team.Team.{Team}
-use Rattle.tw_types.specs.declared.datagram.Datagram.{Datagram}
-use Rattle.tw_types.specs.declared.outputs.View.{View}
-use Rattle.tw_types.specs.declared.outputs.Outputs.{Outputs}
-use Rattle.tw_types.specs.declared.row.RowAnswer.{RowAnswer}
-use Rattle.tw_types.specs.declared.step.Step.{Step}
+use Rattle.tw_machine.specs.Types.{Team, Datagram, View, Outputs, RowAnswer, Step}
 use Rattle.tw_types.specs.Printed.{row_printed}
 use Rattle.tw_machine.specs.Dispatches.{Dispatch, sent_at}
 use Rattle.tw_machine.specs.Admissible.{cause_of, may_receive}
-use Rattle.tw_machine.proofs.Tables.{all_joined, all_mapped}
+use Rattle.tw_machine.proofs.Tables.{all_mapped}
+use Rattle.tw_types.proofs.Lists.{all_joined}
 use Rattle.app_table.specs.Table.{Entry}
 use Rattle.tw_machine.specs.Rows.{row_of, line_by, entries_by}
 use Rattle.tw_machine.specs.World.{world, deed, deed_in}
@@ -26,6 +22,7 @@ use Rattle.world.specs.NodeConditions.{kept_cause, is_of, are_of, IsFresh}
 use Rattle.world.specs.StandsFor.{NodeStandsFor, StandsFor, IsSame}
 use Rattle.world.specs.Tables.{Running, entries_of}
 use Rattle.world.proofs.Histories.{cause_kept, next_other}
+use Rattle.std.proofs.lemmas.Bool.{and_parts, and_from}
 
 -- ---- lists
 
@@ -50,31 +47,20 @@ after (z ∷ xs) (suc i) x (suc j) y e = go (after xs i x j y e)
     go (Written same new) = Written (ap suc same) new
     go (Left other old) = Left (omega arith) old
 
-and_left : (a b : Bool) → (a && b) ≡ true → a ≡ true
-and_left true b e = refl
-and_left false b e = e
-
-and_right : (a b : Bool) → (a && b) ≡ true → b ≡ true
-and_right true b e = e
-and_right false b e = absurd (cc)
-
-and_both : (a b : Bool) → a ≡ true → b ≡ true → (a && b) ≡ true
-and_both a b p q = rw (p, q) refl
-
 -- one process is as it was found, and written anew
 pub one_of : (n : ℕ) (processes : List Node) (i : ℕ) (p : Node) → i < length processes → p ≡ get_or processes i p → are_of n processes ≡ true → is_of n p ≡ true
 one_of n [] i p low e all = absurd (omega arith)
-one_of n (q ∷ processes) zero p low e all = rw e (and_left (is_of n q) _ all)
-one_of n (q ∷ processes) (suc i) p low e all = one_of n processes i p (omega arith) e (and_right (is_of n q) _ all)
+one_of n (q ∷ processes) zero p low e all = rw e (and_parts (is_of n q) _ all).0
+one_of n (q ∷ processes) (suc i) p low e all = one_of n processes i p (omega arith) e (and_parts (is_of n q) _ all).1
 
 pub all_written : (n : ℕ) (processes : List Node) (i : ℕ) (p : Node) → are_of n processes ≡ true → is_of n p ≡ true → are_of n (set processes i p) ≡ true
 all_written n [] i p all one = refl
-all_written n (q ∷ processes) zero p all one = and_both (is_of n p) _ one (and_right (is_of n q) _ all)
-all_written n (q ∷ processes) (suc i) p all one = and_both (is_of n q) _ (and_left (is_of n q) _ all) (all_written n processes i p (and_right (is_of n q) _ all) one)
+all_written n (q ∷ processes) zero p all one = and_from (is_of n p) _ one (and_parts (is_of n q) _ all).1
+all_written n (q ∷ processes) (suc i) p all one = and_from (is_of n q) _ (and_parts (is_of n q) _ all).0 (all_written n processes i p (and_parts (is_of n q) _ all).1 one)
 
 pub all_pushed : (n : ℕ) (processes : List Node) (p : Node) → are_of n processes ≡ true → is_of n p ≡ true → are_of n (processes ++ p ∷ []) ≡ true
-all_pushed n [] p all one = and_both (is_of n p) _ one refl
-all_pushed n (q ∷ processes) p all one = and_both (is_of n q) _ (and_left (is_of n q) _ all) (all_pushed n processes p (and_right (is_of n q) _ all) one)
+all_pushed n [] p all one = and_from (is_of n p) _ one refl
+all_pushed n (q ∷ processes) p all one = and_from (is_of n q) _ (and_parts (is_of n q) _ all).0 (all_pushed n processes p (and_parts (is_of n q) _ all).1 one)
 
 pub if_err : {T E P : Type 0} (r : Result T E) → P → IfErr r (λ x. P)
 if_err (Ok x) p = tt

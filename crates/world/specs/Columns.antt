@@ -1,12 +1,9 @@
 -- What a process makes of its own events alone: its record after them, wherever they come from.
 use Rattle.std.specs.Prelude.{ℕ, ◌==◌, if◌then◌else◌, List, [], ◌∷◌, Option, Some, None, Ok}
 use Rattle.std.specs.Option.{option_map}
-use Rattle.tw_types.specs.declared.outputs.Mode.{Mode}
+use Rattle.tw_machine.specs.Types.{Mode, Act, Step, Team}
 use Rattle.tw_types.specs.declared.outputs.Mode.TheVariants as modes
-use Rattle.tw_types.specs.declared.step.Act.{Act}
 use Rattle.tw_types.specs.declared.step.Act.TheVariants.{First, Again, Crash, Tick, Recv, Send, Reference, Look}
-use Rattle.tw_types.specs.declared.step.Step.{Step}
-use Rattle.tw_types.specs.declared.team.Team.{Team}
 use Rattle.tw_types.specs.Numbered.{numbered}
 use Rattle.tw_types.specs.Process.{Process, started}
 use Rattle.tw_machine.specs.Dispatches.{Dispatch}

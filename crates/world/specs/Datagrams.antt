@@ -1,8 +1,7 @@
 -- The bytes of the datagrams that were sent.
 use Rattle.std.specs.Prelude.{ℕ, ◌+◌, ◌*◌, ◌≤◌, ◌≡◌, ◌==◌, Bool, false, List, map, Option, Some, None, slice_range, vec_len, vec_capacity}
 use Rattle.std.specs.List.{AllByRecursion}
-use Rattle.tw_types.specs.declared.team.Team.{Team}
-use Rattle.tw_types.specs.declared.datagram.Datagram.{Datagram}
+use Rattle.tw_machine.specs.Types.{Team, Datagram}
 use Rattle.tw_types.specs.Spelling.{spelling}
 use Rattle.tw_machine.specs.Dispatches.{Dispatch}
 use Rattle.node_core.specs.Sends.{IsSendable}

@@ -1,13 +1,8 @@
 -- What an act makes of a running process.
 use Rattle.std.specs.Prelude.{ℕ, ◌≡◌, Bool, true, false, Option, Some, None, IsSome}
 use Rattle.tw_num.specs.Clock.{IsNotBefore}
-use Rattle.tw_types.specs.declared.team.Team.{Team}
-use Rattle.tw_types.specs.declared.outputs.View.{View}
-use Rattle.tw_types.specs.declared.outputs.Outputs.{Outputs}
-use Rattle.tw_types.specs.declared.outputs.Mode.{Mode}
+use Rattle.tw_machine.specs.Types.{Team, View, Outputs, Mode, RowAnswer, Act}
 use Rattle.tw_types.specs.declared.outputs.Mode.TheVariants as modes
-use Rattle.tw_types.specs.declared.row.RowAnswer.{RowAnswer}
-use Rattle.tw_types.specs.declared.step.Act.{Act}
 use Rattle.tw_types.specs.declared.step.Act.TheVariants.{First, Again, Crash, Tick, Recv, Send, Reference, Look}
 use Rattle.tw_types.specs.Process.{Process, started}
 use Rattle.tw_machine.specs.Event.{Event}

@@ -1,8 +1,7 @@
 -- The conditions on a step, by what is kept of its process.
 use Rattle.std.specs.Prelude.{ℕ, ◌≡◌, ◌==◌, true, false, None, Some, nat_le, not, ◌&&◌, ◌||◌, is_some, Bool, List, [], ◌∷◌, Option}
 use Rattle.std.specs.List.{list_all}
-use Rattle.tw_types.specs.declared.step.Step.{Step}
-use Rattle.tw_types.specs.declared.step.Cause.{Cause}
+use Rattle.tw_machine.specs.Types.{Step, Cause}
 use Rattle.tw_types.specs.declared.step.Cause.TheVariants.{Time, Drift, Start, NotRunning, NoDatagram, Reference as OutsideReference}
 use Rattle.tw_machine.specs.Admissible.{Condition, first_unmet, is_start, is_first, holds_time}
 use Rattle.world.specs.declared.node.Node.{Node}

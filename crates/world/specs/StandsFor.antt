@@ -1,7 +1,6 @@
 -- When what the code keeps stands for the world of a schedule.
 use Rattle.std.specs.Prelude.{ℕ, ◌≡◌, nat_le, true, List, length, slice_get, Option, Some}
-use Rattle.tw_types.specs.declared.team.Team.{Team}
-use Rattle.tw_types.specs.declared.step.Step.{Step}
+use Rattle.tw_machine.specs.Types.{Team, Step}
 use Rattle.tw_types.specs.Process.{Process}
 use Rattle.tw_machine.specs.Admissible.{each_own, was_started}
 use Rattle.tw_machine.specs.World.{world, Admissible}

@@ -12,7 +12,7 @@ const RAISED: u128 = (1 << 64) * 1_001_000;
 /// What stands for all readings of a hardware clock, each of `h` ticks at a team time `t` in microseconds: the last `h`,
 /// the least `h * 1000000 - t * (1000000 + ppm)` and the greatest `h * 1000000 - t * (1000000 - ppm)`, both raised by
 /// `2^64 * 1001000`.
-#[derive(Clone, Copy, Debug)]
+#[derive(Clone, Copy)]
 pub struct Bounds {
     pub last: u64,
     pub least: u128,

@@ -2,8 +2,7 @@
 
 ghost use Rattle.std.specs.Prelude.{◌≡◌, ℕ, List};
 ghost use Rattle.std.specs.Option.{option_map};
-ghost use Rattle.tw_types.specs.declared.team.Team.{Team};
-ghost use Rattle.tw_types.specs.declared.step.Step.{Step};
+ghost use Rattle.tw_machine.specs.Types.{Team, Step};
 ghost use Rattle.tw_machine.specs.World.{world};
 ghost use Rattle.world.specs.Columns.{record_of, life_in};
 

@@ -4,8 +4,7 @@ ghost use Rattle.std.specs.Prelude.{◌≡◌, ◌<◌, ◌≤◌, ◌^◌, ℕ,
 ghost use Rattle.std.specs.Option.{option_map_or};
 ghost use Rattle.std.specs.List.{AllByRecursion};
 ghost use Rattle.tw_num.specs.Clock.{IsNotBefore};
-ghost use Rattle.tw_types.specs.declared.team.Team.{Team as TeamSeen};
-ghost use Rattle.tw_types.specs.declared.datagram.Datagram.{Datagram};
+ghost use Rattle.tw_machine.specs.Types.{Team as TeamSeen, Datagram};
 ghost use Rattle.tw_types.specs.Process.{Process, started};
 ghost use Rattle.tw_types.specs.Ranges.{DatagramFits};
 ghost use Rattle.tw_types.specs.Spelling.{spelling};
@@ -37,7 +36,7 @@ use tw_types::{Act, Answer, Mode, Outputs, ProposeFault, RowAnswer, Step, Team, 
 
 /// What is kept of a process: the bounds of all its readings, over all its lives, whether it was ever started, and what runs of
 /// it.
-#[derive(Debug, Drop)]
+#[derive(Drop)]
 pub struct Node {
     pub bounds: Option<Bounds>,
     pub started: bool,

@@ -18,7 +18,7 @@ const SENDS: usize = 64;
 const BYTES: usize = 4096;
 
 /// The process that a datagram was sent to, and where its bytes lie: from `start` to before `end`.
-#[derive(Clone, Copy, Debug)]
+#[derive(Clone, Copy)]
 pub struct Place {
     to: u8,
     start: usize,
@@ -27,7 +27,7 @@ pub struct Place {
 
 /// The bytes of all datagrams that were sent, one behind the other, and the place of each in the order in which they were
 /// sent.
-#[derive(Debug, Drop)]
+#[derive(Drop)]
 pub struct Sent {
     bytes: Vec<u8>,
     places: Vec<Place>,

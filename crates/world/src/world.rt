@@ -14,7 +14,7 @@ use tw_num::WantOfMemory;
 use tw_types::{Outputs, Row, RowAnswer, RowLine, Step, Team, View};
 
 /// All processes of a team after some steps of a schedule, at most 100,000, and what they sent.
-#[derive(Debug, Drop)]
+#[derive(Drop)]
 pub struct World {
     alloc: Global,
     team: Team,
@@ -52,8 +52,7 @@ fn line(number: u32, who: u8, answer: RowAnswer, view: View) -> RowLine
 impl World {
     ghost use Rattle.std.specs.Prelude.{◌≡◌, ◌<◌, ◌≤◌, ◌+◌, ◌^◌, List, [], ◌∷◌, true, None, IfOk, IfErr, OnOk, OnErr};
     ghost use Rattle.tw_types.specs.Team.{IsSound};
-    ghost use Rattle.tw_types.specs.declared.team.Team.{Team as TeamSeen};
-    ghost use Rattle.tw_types.specs.declared.step.Step.{Step as StepSeen};
+    ghost use Rattle.tw_machine.specs.Types.{Team as TeamSeen, Step as StepSeen};
     ghost use Rattle.tw_machine.specs.Admissible.{cause_of};
     ghost use Rattle.tw_machine.specs.Grammar.{IsAct};
     ghost use Rattle.tw_machine.specs.World.{world};

@@ -1,7 +1,6 @@
 -- Twelve numbers stand behind the line's first word, and nothing behind them.
-use Rattle.std.proofs.Common.{arith, ◌≡◌, ap, get_or}
+use Rattle.std.proofs.Common.{arith, rules, ◌≡◌, ap, get_or}
 use Rattle.std.specs.Prelude.{codes}
-use Rattle.std.proofs.lemmas.Slice.Eq.{text_from_reads}
 use Rattle.schedule_text.proofs.Taken.{on_err}
 use Rattle.schedule_text.proofs.Read.{team_none, team_taken, team_read}
 use Rattle.schedule_text.proofs.grammar.read_team.Goals as goal
@@ -24,5 +23,5 @@ returns-then-n-from-clause-refused c = λ team h.
 
 pub returns-clause-read : goal.returns-clause-read
 returns-clause-read c =
-    let team : c.in_ok-word.field-0.now ≡ codes "team" = text_from_reads _ (codes "team") (omega arith) (omega arith, (omega arith, (omega arith, (omega arith, tt)))) in
+    let team : c.in_ok-word.field-0.now ≡ codes "team" = c.is_word.ensures.0 (search rules) in
     team_read c.args.line.now _ _ _ _ c.in_ok-n.field-0 c.of-fields.ensures c.in_ok-word.ensures.taken team (omega arith) c.in_ok-n.ensures.taken.0 c.in_ok-n.ensures.taken.1 c.in_ok-end.ensures.none (omega arith) (omega arith) c.if-line-gt-LINE_LIMIT.false

@@ -1,7 +1,5 @@
 use Rattle.std.proofs.Common.{◌≡◌, subst, Result, Ok, arith}
-use Rattle.tw_types.specs.declared.team.Team.{Team}
-use Rattle.tw_types.specs.declared.datagram.Datagram.{Datagram}
-use Rattle.tw_types.specs.declared.datagram.WireFault.{WireFault}
+use Rattle.tw_machine.specs.Types.{Team, Datagram, WireFault}
 use Rattle.tw_machine.specs.Event.{Packet}
 use Rattle.tw_machine.specs.Step.{row_answer}
 use Rattle.wire_body.specs.Reading.{datagram_at}

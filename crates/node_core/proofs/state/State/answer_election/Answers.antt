@@ -1,8 +1,5 @@
 use Rattle.std.proofs.Common.{◌≡◌, ◌∙◌, ◌<◌, refl, sym, ap, Option, None, arith}
-use Rattle.tw_types.specs.declared.message.Member.{Member}
-use Rattle.tw_types.specs.declared.message.Decision.{Decision}
-use Rattle.tw_types.specs.declared.message.Report.{Report}
-use Rattle.tw_types.specs.declared.ballot.Ballot.{Ballot}
+use Rattle.tw_machine.specs.Types.{Member, Decision, Report, Ballot}
 use Rattle.tw_types.specs.declared.datagram.Body.TheVariants as bodies
 use Rattle.tw_types.specs.Votes.{Vote, Promise}
 use Rattle.tw_types.specs.Beliefs.{last_of, view_decision}

@@ -1,6 +1,5 @@
 use Rattle.std.proofs.Common.{◌≡◌, ◌∙◌, ℕ, sym, ap, Some, arith}
-use Rattle.tw_types.specs.declared.ballot.Ballot.{Ballot}
-use Rattle.tw_types.specs.declared.message.Decision.{Decision}
+use Rattle.tw_machine.specs.Types.{Ballot, Decision}
 use Rattle.tw_types.specs.Beliefs.{view_decision}
 use Rattle.tw_types.specs.Votes.{Vote}
 use Rattle.tw_types.specs.declared.datagram.Body.TheVariants as bodies

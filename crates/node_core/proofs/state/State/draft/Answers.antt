@@ -1,6 +1,5 @@
 use Rattle.std.proofs.Common.{◌∙◌, sym, ap, subst, refl}
-use Rattle.tw_types.specs.declared.message.Kept.{Kept}
-use Rattle.tw_types.specs.declared.message.Decision.{Decision}
+use Rattle.tw_machine.specs.Types.{Kept, Decision}
 use Rattle.tw_types.specs.Ranges.{SentFits, Ascends, DecisionFits}
 use Rattle.tw_types.specs.Appending.{IsAppended, appended_list, with_appended}
 use Rattle.node_core.specs.InRange.{KeptFits}

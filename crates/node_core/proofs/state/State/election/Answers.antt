@@ -4,7 +4,8 @@ use Rattle.tw_types.specs.Beliefs.{last_of}
 use Rattle.tw_types.specs.Votes.{Vote}
 use Rattle.tw_types.specs.Promises.{is_quarantined}
 use Rattle.tw_machine.specs.Standing.{last_decision, report_by}
-use Rattle.node_core.proofs.Concerns.{held_by, begun_alike, begun_own, begun_within, only_stuck}
+use Rattle.node_core.specs.StandsFor.{belief_seen}
+use Rattle.node_core.proofs.Concerns.{held_by, begun_alike, begun_above, begun_own, begun_within, only_stuck, told}
 use Rattle.node_core.proofs.state.State.election.Goals as goal
 
 pub returns-clause-held : goal.returns-clause-held
@@ -20,3 +21,10 @@ returns-clause-own c = begun_own c.args.self.now.team c.args.t _ _ c.args.self.n
 
 pub returns-clause-within : goal.returns-clause-within
 returns-clause-within c = begun_within c.args.self.now.team c.args.t _ _ c.args.self.now.vote.promised _ c.args.self.now.identity.who c.args.self.now.oal.length _ c.begin_slot.ensures.exact (omega (arith, c.report.ensures.length))
+
+pub returns-clause-fits : goal.returns-clause-fits
+returns-clause-fits c = c.begin_slot.ensures.fits c.requires.reading c.report.ensures.fits
+    (rw c.last.ensures (told c.args.self.now.team.n (belief_seen c.args.self.now.belief) c.report.result _ c.requires.fits.view refl c.report.ensures.kind c.report.ensures.group c.report.ensures.turn))
+
+pub returns-clause-above : goal.returns-clause-above
+returns-clause-above c = begun_above c.args.self.now.team c.args.t _ _ c.args.self.now.vote.promised _ _ c.begin_slot.ensures.exact

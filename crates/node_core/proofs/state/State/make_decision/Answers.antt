@@ -1,6 +1,5 @@
 use Rattle.std.proofs.Common.{◌∙◌, ap, Some}
-use Rattle.tw_types.specs.declared.message.Decision.{Decision}
-use Rattle.tw_types.specs.declared.outputs.Outputs.{Outputs}
+use Rattle.tw_machine.specs.Types.{Decision, Outputs}
 use Rattle.tw_types.specs.Votes.{Vote}
 use Rattle.tw_machine.specs.Deciding.{supporting, making_kept}
 use Rattle.node_core.proofs.state.State.make_decision.Goals as goal

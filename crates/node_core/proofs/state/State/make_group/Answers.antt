@@ -1,7 +1,6 @@
 use Rattle.std.proofs.Common.{◌≡◌, ◌∙◌, sym, ap, Option, Some, None}
 use Rattle.std.specs.Option.{option_and_then}
-use Rattle.tw_types.specs.declared.team.Team.{Team}
-use Rattle.tw_types.specs.declared.ballot.Ballot.{Ballot}
+use Rattle.tw_machine.specs.Types.{Team, Ballot}
 use Rattle.node_core.specs.Outcomes.{made_if_complete}
 use Rattle.node_core.proofs.Concerns.{Makes, makes, no_group_is}
 use Rattle.node_core.proofs.state.State.make_group.Goals as goal

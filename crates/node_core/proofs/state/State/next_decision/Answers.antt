@@ -1,6 +1,5 @@
 use Rattle.std.proofs.Common.{◌≡◌, ◌≤◌, ◌+◌, ◌∙◌, refl, sym, ap, subst, List, [], None, arith}
-use Rattle.tw_types.specs.declared.message.Entry.{Entry}
-use Rattle.tw_types.specs.declared.message.Decision.{Decision}
+use Rattle.tw_machine.specs.Types.{Entry, Decision}
 use Rattle.tw_types.specs.Refusals.{first_refusal}
 use Rattle.tw_types.specs.Logs.{fit_tests_at}
 use Rattle.tw_types.specs.Waiting.{payloads_of, held_payloads}

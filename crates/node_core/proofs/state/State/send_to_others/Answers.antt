@@ -1,6 +1,5 @@
 use Rattle.std.proofs.Common.{◌≡◌, ◌∙◌, ap, subst, ℕ, not, nat_eq, length, arith}
-use Rattle.tw_types.specs.declared.team.Team.{Team}
-use Rattle.tw_types.specs.declared.outputs.Outputs.{Outputs}
+use Rattle.tw_machine.specs.Types.{Team, Outputs}
 use Rattle.tw_machine.specs.Sending.{datagram_to, sent_to_others}
 use Rattle.node_core.specs.StandsFor.{RunStandsFor}
 use Rattle.node_core.proofs.Others.{one_more, fewer_after}

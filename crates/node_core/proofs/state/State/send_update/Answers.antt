@@ -1,7 +1,6 @@
 use Rattle.std.proofs.Common.{◌≡◌, ◌≤◌, ◌+◌, ◌∙◌, sym, ap, subst, length, None, arith}
 use Rattle.std.specs.List.{AllByRecursion}
-use Rattle.tw_types.specs.declared.team.Team.{Team}
-use Rattle.tw_types.specs.declared.message.Kept.{Kept}
+use Rattle.tw_machine.specs.Types.{Team, Kept}
 use Rattle.tw_types.specs.Sends.{first_send_refusal, seq_to_send}
 use Rattle.tw_machine.specs.Proposing.{refusals, own_seat, own_update, seq_given, update_sent}
 use Rattle.node_core.specs.Sends.{IsSendable}

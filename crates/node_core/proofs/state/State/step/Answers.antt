@@ -1,8 +1,7 @@
 use Rattle.std.proofs.Common.{◌≡◌, ◌∙◌, sym, refl, ap, subst, true, false, Option, Result}
 use Rattle.tw_num.specs.declared.moment.Moment.{Moment}
 use Rattle.tw_num.specs.Clock.{IsNotBefore}
-use Rattle.tw_types.specs.declared.datagram.Datagram.{Datagram}
-use Rattle.tw_types.specs.declared.answer.Reason.{Reason}
+use Rattle.tw_machine.specs.Types.{Datagram, Reason}
 use Rattle.tw_types.specs.Process.{Process}
 use Rattle.tw_machine.specs.Event.{Event}
 use Rattle.tw_machine.specs.Rules.{rule}

@@ -1,6 +1,5 @@
 use Rattle.std.proofs.Common.{◌≡◌, ◌∙◌, refl, sym, ap, subst, true, List, [], Some}
-use Rattle.tw_types.specs.declared.message.Kept.{Kept}
-use Rattle.tw_types.specs.declared.message.Decision.{Decision}
+use Rattle.tw_machine.specs.Types.{Kept, Decision}
 use Rattle.tw_types.specs.Beliefs.{last_of}
 use Rattle.tw_types.specs.Turns.{next_decision}
 use Rattle.tw_types.specs.Process.{Identity}

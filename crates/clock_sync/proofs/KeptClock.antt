@@ -1,9 +1,9 @@
 -- The calls of a clock in terms of what it keeps.
-use Rattle.std.proofs.Common.{◌≡◌, ℕ, ◌+◌, ◌-◌, ◌*◌, ◌^◌, ◌≤◌, ◌∷◌, refl, sym, ◌∙◌, arith, Some, None}
+use Rattle.std.proofs.Common.{◌≡◌, ℕ, ◌+◌, ◌-◌, ◌*◌, ◌/◌, ◌^◌, ◌≤◌, ◌∷◌, refl, sym, ◌∙◌, arith, true, Some, None}
 use Rattle.tw_num.specs.declared.interval.Interval.{Interval}
 use Rattle.tw_num.specs.declared.interval.Disjoint.{Disjoint}
 use Rattle.tw_num.specs.Interval.{aged}
-use Rattle.tw_num.specs.Clock.{Clock, IsNotBefore, shared_at, clash, refusal, after_given, interval_at, unless_disjoint}
+use Rattle.tw_num.specs.Clock.{Clock, IsNotBefore, shared_at, clash, refusal, after_given, interval_at, unless_disjoint, is_narrow, at_least, reading_at, after_read}
 use Rattle.clock_sync.specs.declared.keys.Keys.{Keys}
 use Rattle.clock_sync.specs.Keys.{interval_of, narrowed}
 use Rattle.clock_sync.specs.KeptClock.{KeptClock}
@@ -35,3 +35,11 @@ accepted_kept p eps h i v c k small none le l u s before e =
     let apart : clash (shared_at p h c.given) (aged i 0 p) ≡ None = rw (← same_interval p h v.keys c (rw s.same_ppm at small) s.keys s.unrefused before) (rw s.same_ppm at e) in
     rw (after_accepted p h i c clear)
     (record { same_ppm = s.same_ppm; same_eps = s.same_eps; keys = keys; unrefused = share_added p h i (narrowed v.keys k) c (rw s.same_ppm at small) le before keys apart; greatest = s.greatest; disjoint = s.disjoint })
+
+pub reading_kept : (p eps h : ℕ) (i : Interval) (v : KeptClock) (c : Clock) → StandsFor p eps v c → interval_at p h c ≡ Some i → is_narrow v.eps i ≡ true → Some (at_least v.greatest ((i.lo + i.hi) / 2)) ≡ reading_at p eps h c
+reading_kept p eps h i v c s at narrow = rw (at, ← s.same_eps, narrow, ← s.greatest) refl
+
+pub read_kept : (p eps h t : ℕ) (v : KeptClock) (c : Clock) → StandsFor p eps v c → Some t ≡ reading_at p eps h c → StandsFor p eps (record v { greatest = Some t }) (after_read p eps h c)
+read_kept p eps h t v c s e =
+    rw (← e)
+    (record { same_ppm = s.same_ppm; same_eps = s.same_eps; keys = s.keys; unrefused = s.unrefused; greatest = refl; disjoint = s.disjoint })

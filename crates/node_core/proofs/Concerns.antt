@@ -168,11 +168,17 @@ missing_in_range n team b log payloads me t fits = go (first_objection (objectio
     go None h = tt
     go (Some why) h = h
 
--- an election that is answered
+-- an election that is answered, and one that isn't
+abbrev answered_by : Team → Moment → (from number : ℕ) → ℕ → Run → Option Reason → Ruled
+answered_by team now from number t r o = elim o as (λ o. Ruled) [ None ↦ done (election_answered now from (promise_by r.process number t) r) | Some reason ↦ dropped reason r ]
+
 pub answer_is : (team : Team) (now : Moment) (from number : ℕ) (why : Why) (t : ℕ) (r : Run) → first_refusal (answer_tests team now from number why t r.process) ≡ None
     → answer_election team now from number why t r ≡ done (election_answered now from (promise_by r.process number t) r)
-answer_is team now from number why t r none =
-    ap (λ (o : Option Reason). elim o as (λ o. Ruled) [ None ↦ done (election_answered now from (promise_by r.process number t) r) | Some reason ↦ dropped reason r ]) none
+answer_is team now from number why t r none = ap (answered_by team now from number t r) none
+
+pub no_answer_is : (team : Team) (now : Moment) (from number : ℕ) (why : Why) (t : ℕ) (r : Run) (reason : Reason) → first_refusal (answer_tests team now from number why t r.process) ≡ Some reason
+    → answer_election team now from number why t r ≡ dropped reason r
+no_answer_is team now from number why t r reason some = ap (answered_by team now from number t r) some
 
 -- an election is held exactly where the process's state makes it hold one
 pub held_by : (team : Team) (now : Moment) (t : ℕ) (r : Run) (o : Option (Ballot × Why))
@@ -266,7 +272,14 @@ others_alike team c out now r a b e s = subst (λ (x : Body). RunStandsFor team 
 pub timely_is : (team : Team) (now : Moment) (head : Head) (rule : ℕ → Run → Ruled) (r : Run) (t : ℕ) → timely_reading (rate_of team now head) now.reading ≡ Ok t → if_timely team now head rule r ≡ rule t r
 timely_is team now head rule r t e = ap (λ (o : Result ℕ Reason). elim o as (λ o. Ruled) [ Err reason ↦ dropped reason r | Ok t ↦ rule t r ]) e
 
--- the rules of a decision and of a promise that come in time
+pub untimely_is : (team : Team) (now : Moment) (head : Head) (rule : ℕ → Run → Ruled) (r : Run) (reason : Reason) → timely_reading (rate_of team now head) now.reading ≡ Err reason → if_timely team now head rule r ≡ dropped reason r
+untimely_is team now head rule r reason e = ap (λ (o : Result ℕ Reason). elim o as (λ o. Ruled) [ Err reason ↦ dropped reason r | Ok t ↦ rule t r ]) e
+
+-- whether a packet comes in time, by the team of the state that stands for the process
+pub rated : (c team : Team) (now : Moment) (head : Head) (result found : Result ℕ Reason) → c ≡ team → result ≡ timely_reading (rate_of c now head) now.reading → result ≡ found → timely_reading (rate_of team now head) now.reading ≡ found
+rated c team now head result found same exact is = ap (λ (x : Team). timely_reading (rate_of x now head) now.reading) (sym same) ∙ sym exact ∙ is
+
+-- the rules of a decision, of an election and of a promise that come in time, and of those that don't
 pub decision_rule : (team : Team) (now : Moment) (head : Head) (d : Decision) (r : Run) (t : ℕ) → timely_reading (rate_of team now head) now.reading ≡ Ok t → kind_rule team now head (bodies.Decision d) r ≡ take_decision now d r
 unfolding kind_rule
 decision_rule team now head d r t e = timely_is team now head (λ t. take_decision now d) r t e
@@ -274,6 +287,22 @@ decision_rule team now head d r t e = timely_is team now head (λ t. take_decisi
 pub promise_rule : (team : Team) (now : Moment) (head : Head) (p : Promise) (r : Run) (t : ℕ) → timely_reading (rate_of team now head) now.reading ≡ Ok t → kind_rule team now head (bodies.Promise p.number p.report p.decision) r ≡ take_promise p r
 unfolding kind_rule
 promise_rule team now head p r t e = timely_is team now head (λ t. take_promise p) r t e
+
+pub election_rule : (team : Team) (now : Moment) (head : Head) (number : ℕ) (why : Why) (r : Run) (t : ℕ) → timely_reading (rate_of team now head) now.reading ≡ Ok t → kind_rule team now head (bodies.Election number why) r ≡ answer_election team now head.from number why t r
+unfolding kind_rule
+election_rule team now head number why r t e = timely_is team now head (answer_election team now head.from number why) r t e
+
+pub late_decision : (team : Team) (now : Moment) (head : Head) (d : Decision) (r : Run) (reason : Reason) → timely_reading (rate_of team now head) now.reading ≡ Err reason → kind_rule team now head (bodies.Decision d) r ≡ dropped reason r
+unfolding kind_rule
+late_decision team now head d r reason e = untimely_is team now head (λ t. take_decision now d) r reason e
+
+pub late_election : (team : Team) (now : Moment) (head : Head) (number : ℕ) (why : Why) (r : Run) (reason : Reason) → timely_reading (rate_of team now head) now.reading ≡ Err reason → kind_rule team now head (bodies.Election number why) r ≡ dropped reason r
+unfolding kind_rule
+late_election team now head number why r reason e = untimely_is team now head (answer_election team now head.from number why) r reason e
+
+pub late_promise : (team : Team) (now : Moment) (head : Head) (p : Promise) (r : Run) (reason : Reason) → timely_reading (rate_of team now head) now.reading ≡ Err reason → kind_rule team now head (bodies.Promise p.number p.report p.decision) r ≡ dropped reason r
+unfolding kind_rule
+late_promise team now head p r reason e = untimely_is team now head (λ t. take_promise p) r reason e
 
 -- those of an update and of a question
 pub update_rule : (team : Team) (now : Moment) (head : Head) (k : Kept) (r : Run) → kind_rule team now head (bodies.Update k) r ≡ take_update now k r

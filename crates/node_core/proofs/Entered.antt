@@ -1,12 +1,15 @@
 -- What a process keeps once a decision is taken or held.
 use Rattle.std.proofs.Common.{◌≡◌, refl, ap, ◌∙◌, ℕ, ◌≤◌, Bool, cond, Option, Some, None, IfSome, arith}
 use Rattle.tw_num.specs.declared.moment.Moment.{Moment}
-use Rattle.tw_machine.specs.Types.{UpdateId, Report, Decision, Ballot}
+use Rattle.tw_machine.specs.Types.{Team, UpdateId, Report, Decision, Ballot}
+use Rattle.tw_types.specs.declared.datagram.Body.TheVariants as bodies
 use Rattle.tw_types.specs.Waiting.{Waiting, first_hole, released}
 use Rattle.tw_types.specs.Process.{Process, Hold, ToGroup}
 use Rattle.tw_machine.specs.Run.{Run}
 use Rattle.tw_machine.specs.Entering.{is_overtaken, asked, decision_held}
-use Rattle.tw_machine.specs.Beating.{ask_again}
+use Rattle.tw_machine.specs.Sending.{sent_to_others}
+use Rattle.tw_machine.specs.Standing.{last_decision}
+use Rattle.tw_machine.specs.Beating.{is_repeated, repeat_decision, ask_again}
 use Rattle.tw_machine.specs.Grouping.{best_held}
 use Rattle.node_core.specs.InRange.{ReportsWithin}
 use Rattle.node_core.specs.Outcomes.{let_go, best_of}
@@ -42,3 +45,13 @@ best_is now ballot id r o e = go ballot.best ∙ ap (by_best now id r) e
         ≡ by_best now id r (elim best as (λ o. Option (Decision × ℕ)) [ None ↦ None | Some d ↦ Some (d, ballot.best_from) ])
     go None = refl
     go (Some d) = refl
+
+-- the last decision is said again
+abbrev by_last : Team → Moment → Run → Option Decision → Run
+by_last team now r o = elim o as (λ o. Run) [ None ↦ r | Some last ↦ cond (is_repeated team r.process last now.reading) (sent_to_others team.n now (bodies.Decision last) r) r ]
+
+pub said_by : (team : Team) (now : Moment) (r : Run) (last : Decision) (b : Bool) → last_decision r.process ≡ Some last → is_repeated team r.process last now.reading ≡ b → repeat_decision team now r ≡ cond b (sent_to_others team.n now (bodies.Decision last) r) r
+said_by team now r last b is again = ap (by_last team now r) is ∙ ap (λ (b : Bool). cond b (sent_to_others team.n now (bodies.Decision last) r) r) again
+
+pub says_nothing : (team : Team) (now : Moment) (r : Run) → last_decision r.process ≡ None → repeat_decision team now r ≡ r
+says_nothing team now r is = ap (by_last team now r) is

@@ -142,12 +142,20 @@ pub up_reads : (team : Team) (vote : Vote) (belief : Belief) (reading : Option �
 up_reads team vote belief None up fits = omega arith
 up_reads team vote belief (Some t) up fits = fits
 
-pub proposed : (team : Team) (now : Moment) (order : Order) (atom : Atom) (payload : List ℕ) (r : Run) → first_send_refusal (refusals team now (length payload) r.process) ≡ None
-    → propose team now order atom payload r ≡ sent (own_seq r.process) (update_sent team now (own_update now order atom payload r.process) r)
-proposed team now order atom payload r e = ap (λ (o : Option ProposeFault). elim o as (λ o. Ended) [
+-- how a send ends, by its refusal
+abbrev ended_by : Team → Moment → Order → Atom → List ℕ → Run → Option ProposeFault → Ended
+ended_by team now order atom payload r o = elim o as (λ o. Ended) [
   | None ↦ sent (own_seq r.process) (update_sent team now (own_update now order atom payload r.process) r)
   | Some why ↦ refused why r
-]) e
+]
+
+pub proposed : (team : Team) (now : Moment) (order : Order) (atom : Atom) (payload : List ℕ) (r : Run) → first_send_refusal (refusals team now (length payload) r.process) ≡ None
+    → propose team now order atom payload r ≡ sent (own_seq r.process) (update_sent team now (own_update now order atom payload r.process) r)
+proposed team now order atom payload r e = ap (ended_by team now order atom payload r) e
+
+pub not_proposed : (team : Team) (now : Moment) (order : Order) (atom : Atom) (payload : List ℕ) (r : Run) (why : ProposeFault) → first_send_refusal (refusals team now (length payload) r.process) ≡ Some why
+    → propose team now order atom payload r ≡ refused why r
+not_proposed team now order atom payload r why e = ap (ended_by team now order atom payload r) e
 
 -- what refuses a send, by the state
 abbrev refused_by : Moment → ℕ → Team → Vote → Belief → Option Seat → ℕ → Option ProposeFault

@@ -1,7 +1,6 @@
 -- A decision that grew by entries that came one after the other.
-use Rattle.std.proofs.Common.{◌≡◌, refl, ℕ, ◌+◌, ◌<◌, ◌≤◌, Bool, true, false, List, [], ◌∷◌, ◌++◌, map, length, inl, inr, ◌⊎◌, arith, sym, ap, ◌∙◌, subst, suc, leb, length-append}
-use Rattle.std.specs.Prelude.{◌&&◌}
-use Rattle.std.specs.List.{AllByRecursion, Contains}
+use Rattle.std.proofs.Common.{◌≡◌, refl, ℕ, ◌+◌, ◌<◌, ◌≤◌, true, false, List, [], ◌∷◌, ◌++◌, length, inl, inr, ◌⊎◌, arith, sym, ap, ◌∙◌, subst, length-append}
+use Rattle.std.specs.List.{AllByRecursion}
 use Rattle.std.proofs.lemmas.List.{length-map}
 use Rattle.std.proofs.lemmas.Bool.Decides.{nat_tests}
 use Rattle.tw_types.specs.declared.team.Team.{Team}
@@ -13,16 +12,15 @@ use Rattle.tw_types.specs.declared.message.Decision.{Decision}
 use Rattle.tw_types.specs.Ranges.{Ascends, SentFits}
 use Rattle.tw_types.specs.Decisions.{decision_length, is_seat_of}
 use Rattle.update_store.specs.Stock.{HasNumber}
-use Rattle.tw_types.specs.Logs.{log_room}
 use Rattle.tw_types.specs.Turns.{DraftFits}
-use Rattle.tw_types.specs.Updates.{WaitInOrder, sender}
-use Rattle.tw_types.specs.Appending.{is_candidate, is_ripe, may_come, window_room, last_position, has_room, MayBeAppended, IsAppended, appended_list, raised, with_appended, IsNextEntry}
+use Rattle.tw_types.specs.Updates.{sender}
+use Rattle.tw_types.specs.Appending.{is_candidate, is_ripe, may_come, has_room, MayBeAppended, IsAppended, appended_list, raised, with_appended, IsNextEntry}
 use Rattle.tw_types.proofs.Appended.{appended_is}
 use Rattle.order_rules.specs.Next.{room_for_one, GoesOn, Ends, Empty, Full}
 use Rattle.order_rules.specs.Next as next
 use Rattle.order_rules.proofs.Lists.{holds_of, holds_of_each, both}
 use Rattle.order_rules.proofs.Longest.{longest, one_appended, room_by, has_room_by, NoneFollows, IsFull}
-use Rattle.order_rules.proofs.Unique.{WaitForSeats, IsAtSeat, seat_of, one_seat}
+use Rattle.order_rules.proofs.Unique.{WaitForSeats, seat_of, one_seat}
 use Rattle.order_rules.proofs.Fits.{one_more_fits}
 use Rattle.order_rules.proofs.Shift.{EachIsFirst, each_is_next, one_more_first, with_one_more, may_come_with, with_nothing}
 

@@ -1,6 +1,6 @@
 -- Lines that are a step's, texts that are each of the things that a text may be, and others that aren't, worked out by
 -- hand.
-use Rattle.std.proofs.Common.{◌≡◌, refl, ap, inl, inr, ℕ, zero, suc, ◌+◌, arith, true, List, [], ◌∷◌, length, None, Some}
+use Rattle.std.proofs.Common.{◌≡◌, refl, ap, inl, inr, ℕ, zero, suc, ◌+◌, arith, true, List, [], ◌∷◌, length, None}
 use Rattle.std.specs.Prelude.{codes, nat_le}
 use Rattle.std.specs.Fmt.{digits}
 use Rattle.std.specs.List.{list_all}

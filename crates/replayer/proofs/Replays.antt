@@ -1,12 +1,14 @@
 -- A text that is replayed line by line.
-use Rattle.std.proofs.Common.{subst, ◌≡◌, inl, inr, ◌≤◌, ◌<◌, refl, sym, ap, ◌∙◌, ℕ, ◌+◌, List, [], ◌∷◌, ◌++◌, length, None, arith}
+use Rattle.std.proofs.Common.{subst, ◌≡◌, inl, inr, ◌≤◌, ◌<◌, refl, sym, ap, ◌∙◌, ℕ, ◌+◌, List, [], ◌∷◌, ◌++◌, length, Option, Some, None, arith}
 use Rattle.std.proofs.lemmas.List.{append-nil}
 use Rattle.std.proofs.lemmas.List.Concat.{flat_map-append}
 use Rattle.tw_machine.specs.Types.{Team, Cause, Step}
 use Rattle.tw_types.specs.Team.{fault_of}
 use Rattle.schedule_text.specs.declared.status.Status.TheVariants as status
 use Rattle.world.specs.declared.world.World as code
-use Rattle.tw_machine.specs.Grammar.{IsTeamLine, line_limit}
+use Rattle.tw_machine.specs.Admissible.{cause_of}
+use Rattle.tw_machine.specs.Grammar.{IsTeamLine, IsStepLine, line_limit}
+use Rattle.tw_machine.specs.World.{world}
 use Rattle.tw_machine.specs.Rows.{rows_of, row_of}
 use Rattle.tw_types.specs.Row.{Row}
 use Rattle.tw_machine.specs.RowText.{text_of, row_text}
@@ -14,7 +16,7 @@ use Rattle.replayer.specs.Replay.{lines_of, step_limit, Spells, Begins, IsBadLin
 use Rattle.replayer.specs.Cuts.{IsFirstLine, MayGoOn, Tells}
 use Rattle.world.specs.StandsFor.{StandsFor}
 use Rattle.world.specs.Tables.{entries_of}
-use Rattle.replayer.specs.NextLine.{TakesLine}
+use Rattle.replayer.specs.NextLine.{TakesLine, RefusesLine, refusal_of}
 use Rattle.replayer.proofs.Cuts.{good_line, any_line, Faced, AsItIs, Longer, no_line, some_line}
 
 -- After the steps of a past their rows are written, and the rest of the lines is left.
@@ -24,6 +26,12 @@ pub record Going (team : Team) (steps rest rows : List ℕ) (w : code.World) : T
   pub text : rows ≡ text_of (rows_of entries_of team past)
   pub within : length past ≤ step_limit
   pub cut : (more : List ℕ) → MayGoOn 1 steps more → MayGoOn (length past + 1) rest more × Spells team.n past (lines_of (rest ++ more)) (lines_of (steps ++ more))
+
+-- a step that is refused for a cause, or for want of memory
+pub refused : (team : Team) (past : List Step) (line : List ℕ) (s : Step) (cause : Option Cause) → IsStepLine team.n line s → cause_of team (world team past).sent past s ≡ cause
+    → RefusesLine team past line (refusal_of cause)
+refused team past line s None is same = tt
+refused team past line s (Some cause) is same = inr (s, is, same)
 
 text_of-push : (rows : List Row) (r : Row) → text_of (rows ++ r ∷ []) ≡ text_of rows ++ row_text r
 text_of-push rows r = flat_map-append row_text rows (r ∷ []) ∙ ap (λ t. text_of rows ++ t) (append-nil (row_text r))

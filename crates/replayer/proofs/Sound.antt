@@ -1,5 +1,5 @@
 -- A team in which no fault is found is sound.
-use Rattle.std.proofs.Common.{◌≡◌, refl, ℕ, List, [], ◌∷◌, Option, Some, None, Bool, true, false, cond, arith}
+use Rattle.std.proofs.Common.{◌≡◌, refl, List, [], ◌∷◌, Option, Some, None, Bool, true, false, cond, arith}
 use Rattle.std.proofs.lemmas.Bool.Decides.{nat_tests}
 use Rattle.tw_machine.specs.Types.{Team, TeamFault}
 use Rattle.tw_types.specs.Team.{Tested, faults_of, first_present, fault_of, IsSound}

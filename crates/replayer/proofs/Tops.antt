@@ -1,11 +1,13 @@
 -- What the top call answers.
-use Rattle.std.proofs.Common.{subst, ◌≡◌, ◌⊎◌, inl, inr, refl, sym, ap, ◌∙◌, ℕ, List, [], ◌∷◌, ◌++◌, Option, Some}
+use Rattle.std.proofs.Common.{subst, ◌≡◌, ◌⊎◌, arith, false, nat_eq, inl, inr, refl, sym, ap, ◌∙◌, ℕ, List, [], ◌∷◌, ◌++◌, Option, Some}
+use Rattle.std.proofs.lemmas.Bool.Decides.{nat_tests}
 use Rattle.std.proofs.lemmas.List.{append-nil}
 use Rattle.tw_machine.specs.Types.{Team, TeamFault, Step}
 use Rattle.schedule_text.specs.declared.status.Status.{Status}
 use Rattle.schedule_text.specs.declared.status.Status.TheVariants as status
+use Rattle.schedule_text.specs.Numbers.{number_of}
 use Rattle.replayer.specs.Replay.{lines_of, Begins, Verdict, Whole, NoTeam, Faulty, BadLine, Endless, IsVerdict, status_of, text_before}
-use Rattle.replayer.specs.Answers.{GaveUp, RowsAreWell, IsAnswered, IsReplayed}
+use Rattle.replayer.specs.Answers.{GaveUp, TellsOfText, RowsAreWell, IsAnswered, IsReplayed}
 use Rattle.tw_machine.specs.Rows.{rows_of}
 use Rattle.tw_machine.specs.SafeRows.{SafeRows}
 use Rattle.tw_machine.specs.ClockLaw.{ReadsWell}
@@ -14,6 +16,14 @@ use Rattle.safety_laws.proofs.Safe.{safe_rows}
 use Rattle.world.specs.Tables.{entries_of}
 use Rattle.replayer.proofs.Sound.{sound_of}
 use Rattle.replayer.proofs.Verdicts.{nothing_written}
+
+-- statuses with different numbers
+pub apart : (s t : Status) → nat_eq (number_of s) (number_of t) ≡ false → s ≡ t → ⊥
+apart s t differ same = let reflexive : nat_eq (number_of t) (number_of t) ≡ false = subst (λ (x : Status). nat_eq (number_of x) (number_of t) ≡ false) same differ in grind (arith, nat_tests)
+
+-- a status that tells of the text is none of those that don't
+pub told : (s t : Status) → TellsOfText s → s ≡ t → TellsOfText t
+told s t tells same = subst (λ (x : Status). TellsOfText x) same tells
 
 -- a status that isn't one of the three
 pub settled : (s t : Status) → s ≡ t → (GaveUp t → ⊥) → GaveUp s → ⊥

@@ -88,16 +88,20 @@ fn hold(row: &Row, rows: &mut Held) -> Result<(), WantOfMemory>
     write_row(row, rows).map_err(|_| WantOfMemory)
 }
 
-/// Replays the steps of a sound team.
-fn replay_steps(alloc: Global, team: Team, steps: &[u8]) -> Result<Replay, WantOfMemory>
-    requires { IsSound team }
-    ensures tells { IfOk result (λ replay. (first more : List ℕ) → IsTeamLine first team → fault_of team ≡ None → MayGoOn 1 steps.now more →
+/// Takes the steps that the lines spell, one after the other, and holds the row of each.
+fn take_lines(
+    alloc: Global,
+    world: &mut World,
+    team: &Team,
+    row: &mut Row,
+    steps: &[u8],
+) -> Result<Replay, WantOfMemory>
+    requires { StandsFor team.now [] world.old }
+    ensures tells { IfOk result (λ replay. (first more : List ℕ) → IsTeamLine first team.now → fault_of team.now ≡ None → MayGoOn 1 steps.now more →
         Tells (first ∷ lines_of (steps.now ++ more)) replay.status (written replay.rows)) }
     ensures whole { IfOk result (λ replay. replay.status ≡ Status.Ok → (more : List ℕ) → MayGoOn 1 steps.now more → more ≡ []) }
     ensures status { IfOk result (λ replay. TellsOfText replay.status) }
 {
-    let mut world = World::new(alloc, team)?;
-    let mut row = Row::new(alloc)?;
     let mut rows = Held::new(alloc);
     let mut steps_made = 0;
     let mut rest = steps;
@@ -108,8 +112,8 @@ fn replay_steps(alloc: Global, team: Team, steps: &[u8]) -> Result<Replay, WantO
                 rows,
             });
         }
-        match take_line(&mut world, &team, line, &mut row) {
-            Ok(()) => hold(&row, &mut rows)?,
+        match take_line(world, team, line, row) {
+            Ok(()) => hold(row, &mut rows)?,
             Err(Refusal::Cause(cause)) => {
                 let number = u64::from(steps_made) + 2;
                 return Ok(Replay {
@@ -126,6 +130,19 @@ fn replay_steps(alloc: Global, team: Team, steps: &[u8]) -> Result<Replay, WantO
         status: Status::Ok,
         rows,
     })
+}
+
+/// Replays the steps of a sound team.
+fn replay_steps(alloc: Global, team: Team, steps: &[u8]) -> Result<Replay, WantOfMemory>
+    requires { IsSound team }
+    ensures tells { IfOk result (λ replay. (first more : List ℕ) → IsTeamLine first team → fault_of team ≡ None → MayGoOn 1 steps.now more →
+        Tells (first ∷ lines_of (steps.now ++ more)) replay.status (written replay.rows)) }
+    ensures whole { IfOk result (λ replay. replay.status ≡ Status.Ok → (more : List ℕ) → MayGoOn 1 steps.now more → more ≡ []) }
+    ensures status { IfOk result (λ replay. TellsOfText replay.status) }
+{
+    let mut row = Row::new(alloc)?;
+    let mut world = World::new(alloc, team)?;
+    take_lines(alloc, &mut world, &team, &mut row, steps)
 }
 
 /// Replays what was read of a text, if what follows it matters no more.

@@ -4,7 +4,7 @@ use crate::datagram::WireFault;
 use crate::message::UpdateId;
 
 /// Why an event is dropped.
-#[derive(Clone, Copy, Debug, PartialEq, Eq)]
+#[derive(Clone, Copy, Debug)]
 pub enum Reason {
     /// The bytes are no datagram that is taken.
     Wire(WireFault),

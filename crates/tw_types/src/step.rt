@@ -33,7 +33,7 @@ pub enum Act {
 
 /// One step of a schedule: at team time `t`, in microseconds below 2^60, process `who`, whose hardware clock reads `h`
 /// ticks, below 2^60, acts.
-#[derive(PartialEq, Eq, Drop)]
+#[derive(Drop)]
 pub struct Step {
     pub t: u64,
     pub who: u8,

@@ -44,6 +44,13 @@ marked_inside id s h = record {
   window = h.window;
 }
 
+pub released_inside : (s : Inside) → IsInside s → IsInside (record s { held = None; payloads = [] })
+released_inside s h = record {
+  stock = record { order = h.stock.order; numbers = h.stock.numbers; few = h.stock.few; held = tt };
+  alone = λ _. refl;
+  window = tt;
+}
+
 few_ids : (first : ℕ) (d : Decision) → length d.window.items ≤ 32 → length (ids_from first d) ≤ 32
 few_ids first d le = omega (arith, length-map (entries_from first d) (λ (e : Entry). e.id), length-drop (first - d.low) d.window.items)
 

@@ -1,4 +1,5 @@
 pub mod Rows
+pub mod Left
 pub mod Whole
 pub mod ListReads
 pub mod EntryReads

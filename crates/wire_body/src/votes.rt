@@ -1,13 +1,13 @@
 //! The two bodies of a vote that carry reports and a decision.
 
-ghost use Rattle.std.specs.Prelude.{◌≡◌, ◌==◌, ◌&&◌, ◌+◌, ◌*◌, ◌<◌, ◌≤◌, ◌^◌, not, length, Some, None, IfSome};
+ghost use Rattle.std.specs.Prelude.{◌≡◌, ◌==◌, ◌&&◌, ◌+◌, ◌*◌, ◌<◌, ◌≤◌, ◌^◌, not, length, Some, None, IfSome, Ok};
 ghost use Rattle.std.specs.List.{list_all};
 ghost use Rattle.std.proofs.Common.{rules};
 ghost use Rattle.tw_types.specs.declared.message.Report.{Report};
 ghost use Rattle.tw_types.specs.declared.datagram.Body.TheVariants as bodies;
 ghost use Rattle.tw_types.specs.Bytes.{guarded, eight};
 ghost use Rattle.tw_types.specs.Spelling.{kind_number, report_bytes, body_bytes};
-ghost use Rattle.wire_head.specs.Reading.{count_at, guarded_at};
+ghost use Rattle.wire_head.specs.Reading.{count_at, guarded_at, positive_at};
 ghost use Rattle.wire_head.specs.Writing.{Writes};
 ghost use Rattle.wire_body.specs.Lists.{optional_at, Leaves};
 ghost use Rattle.wire_body.specs.Decisions.{decision_at, decision_size};
@@ -241,7 +241,32 @@ fn optional_size(decision: &Option<Decision>) -> usize
     }
 }
 
+/// Makes the parts of a promise the ones that the bytes spell, in place of those that were there.
 #[tactic(auto, unfolding(crate::specs::Votes::promise_at, wire_head::specs::Reading::checked_at))]
+fn fill_promise(
+    n: u8,
+    head: &Head,
+    bytes: &[u8],
+    number: &mut u64,
+    report: &mut Report,
+    decision: &mut Option<Decision>,
+) -> Result<(), WireFault>
+    requires { n ≤ 15 }
+    ensures { Leaves result (record { number = number.new; report = report.new; decision = decision.new }) (promise_at n head.now bytes.now) }
+{
+    *number = positive_at(bytes, 57)?;
+    let sender = Member {
+        who: head.from,
+        incarnation: head.incarnation,
+    };
+    let vote = Vote { n, number: *number };
+    *report = report_at(&vote, Some(sender), &[], bytes, 65)?;
+    let present = byte_at(bytes, 116)?;
+    let expected = is_with_decision(report);
+    where_allowed(present == u8::from(expected), (), 116)?;
+    decision_if(present == 1, n, report, bytes, decision)
+}
+
 #[inline(never)]
 pub fn promise_in(
     n: u8,
@@ -266,17 +291,7 @@ pub fn promise_in(
             report,
             decision,
         } => {
-            *number = positive_at(bytes, 57)?;
-            let sender = Member {
-                who: head.from,
-                incarnation: head.incarnation,
-            };
-            let vote = Vote { n, number: *number };
-            *report = report_at(&vote, Some(sender), &[], bytes, 65)?;
-            let present = byte_at(bytes, 116)?;
-            let expected = is_with_decision(report);
-            where_allowed(present == u8::from(expected), (), 116)?;
-            decision_if(present == 1, n, report, bytes, decision)?;
+            fill_promise(n, head, bytes, number, report, decision)?;
             ends_at(bytes, 117 + optional_size(decision))
         }
         _ => Err(WireFault::Kind),
@@ -319,6 +334,37 @@ fn fill_reports(
     fill_items(vote, count, bytes, place + 1, reports)
 }
 
+/// Makes the parts of a no-decision behind its number, which was read, the ones that the bytes spell.
+#[tactic(auto, unfolding(crate::specs::Votes::no_decision_at))]
+fn fill_no_decision(
+    vote: &Vote,
+    bytes: &[u8],
+    group: &mut u64,
+    turn: &mut u64,
+    skip: &mut u8,
+    reports: &mut ArrayVec<Report, 15>,
+    best: &mut Decision,
+) -> Result<(), WireFault>
+    requires size { vote.now.n ≤ 15 }
+    requires number { positive_at bytes.now 57 ≡ Ok vote.now.number }
+    ensures { Leaves result (record { number = vote.now.number; group = group.new; turn = turn.new; skip = skip.new; reports = reports.new.items; best = best.new }) (no_decision_at vote.now.n bytes.now) }
+{
+    *group = positive_at(bytes, 65)?;
+    *turn = count_at(bytes, 73)?;
+    *skip = byte_below(vote.n, bytes, 81)?;
+    fill_reports(vote, bytes, 82, reports)?;
+    let (best_group, best_turn) = latest(reports.as_slice());
+    let behind = 83 + 51 * reports.len();
+    fill_decision(
+        vote.n,
+        Some(best_group),
+        Some(best_turn),
+        bytes,
+        behind,
+        best,
+    )
+}
+
 #[tactic(auto, unfolding(crate::specs::Votes::no_decision_at))]
 #[inline(never)]
 pub fn no_decision_in(
@@ -331,6 +377,10 @@ pub fn no_decision_in(
     ensures { Leaves result datagram.new (whole head.now bytes.now (in_body no_decision_of (λ g. 83 + 51 * length g.reports + decision_size g.best) (no_decision_at n bytes.now))) }
 {
     datagram.head = *head;
+    let vote = Vote {
+        n,
+        number: positive_at(bytes, 57)?,
+    };
     if !matches!(datagram.body, Body::NoDecision { .. }) {
         datagram.body = Body::NoDecision {
             number: 0,
@@ -350,15 +400,9 @@ pub fn no_decision_in(
             reports,
             best,
         } => {
-            *number = positive_at(bytes, 57)?;
-            *group = positive_at(bytes, 65)?;
-            *turn = count_at(bytes, 73)?;
-            *skip = byte_below(n, bytes, 81)?;
-            fill_reports(&Vote { n, number: *number }, bytes, 82, reports)?;
-            let (best_group, best_turn) = latest(reports.as_slice());
-            let behind = 83 + 51 * reports.len();
-            fill_decision(n, Some(best_group), Some(best_turn), bytes, behind, best)?;
-            ends_at(bytes, behind + decision_size(best))
+            *number = vote.number;
+            fill_no_decision(&vote, bytes, group, turn, skip, reports, best)?;
+            ends_at(bytes, 83 + 51 * reports.len() + decision_size(best))
         }
         _ => Err(WireFault::Kind),
     }

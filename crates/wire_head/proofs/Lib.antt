@@ -1,3 +1,4 @@
+pub mod Taken
 pub mod Zeros
 pub mod Numbers
 pub mod Written

@@ -5,3 +5,4 @@ pub mod Histories
 pub mod Worlds
 pub mod Columns
 mod Premises
+pub mod Starts

@@ -9,3 +9,6 @@ pub returns-clause-none : goal.returns-clause-none
 returns-clause-none c =
     let whole : c.loop-report.best ≡ best c.args.reports.now = grind (arith, common_steps) in
     rw whole (none_informed c.args.reports.now)
+
+pub loop-report-preserved : goal.loop-report-preserved
+loop-report-preserved c = grind (arith, common_steps)

@@ -3,6 +3,9 @@ use Rattle.std.proofs.lemmas.List.{append-nil}
 use Rattle.replayer.proofs.Inputs.{read_on, none_read}
 use Rattle.replayer.proofs.input.read_text.Goals as goal
 
+pub returns-in-Err-clause-read : goal.returns-in-Err-clause-read
+returns-in-Err-clause-read g c = tt
+
 pub returns-then-is_empty-clause-read : goal.returns-then-is_empty-clause-read
 returns-then-is_empty-clause-read g c = λ all told.
     let before = c.loop-count.invariant.told all told in

@@ -1,4 +1,4 @@
-use Rattle.std.proofs.Common.{◌≡◌, ◌∙◌, sym, subst, arith, Some, None}
+use Rattle.std.proofs.Common.{◌≡◌, ◌∙◌, sym, ap, subst, arith, Some, None}
 use Rattle.tw_num.specs.declared.interval.Interval.{Interval}
 use Rattle.tw_num.specs.Interval.{aged}
 use Rattle.tw_num.specs.Clock.{clash, after_given}
@@ -39,3 +39,8 @@ returns-clause-given c p eps k s before =
     let P : KeptClock → Type 0 = λ w. StandsFor p eps (record w { keys = Some c.narrowed.result }) (after_given p c.args.h i k) in
     subst P (sym c.self.view_is)
     (rw keys (accepted_kept p eps c.args.h i v k c.of.result (grind arith) (grind arith) c.requires.ordered (grind arith) (grind arith) s before e))
+
+pub returns-in-Some-contradiction-clause-kept : goal.returns-in-Some-contradiction-clause-kept
+returns-in-Some-contradiction-clause-kept c =
+    let refused = λ (w : KeptClock). record w { disjoint = Some c.in-Some-contradiction.disjoint } in
+    ap refused c.self.view_is

@@ -1,13 +1,14 @@
 use Rattle.std.proofs.Common.{◌≡◌, ◌∙◌, ◌<◌, refl, sym, ap, Option, None, arith}
-use Rattle.tw_machine.specs.Types.{Member, Decision, Report, Ballot}
+use Rattle.tw_machine.specs.Types.{Team, Member, Decision, Report, Ballot}
 use Rattle.tw_types.specs.declared.datagram.Body.TheVariants as bodies
 use Rattle.tw_types.specs.Votes.{Vote, Promise}
 use Rattle.tw_types.specs.Beliefs.{last_of, view_decision}
 use Rattle.tw_types.specs.Refusals.{first_refusal}
 use Rattle.tw_machine.specs.Standing.{promise_by}
-use Rattle.tw_machine.specs.Electing.{answer_tests, promised}
-use Rattle.node_core.specs.StandsFor.{belief_seen}
-use Rattle.node_core.proofs.Concerns.{answer_is, told, reported_below, later, if_none, sent_alike}
+use Rattle.tw_machine.specs.Run.{Run, Ruled, dropped}
+use Rattle.tw_machine.specs.Electing.{answer_tests, promised, answer_election}
+use Rattle.node_core.specs.StandsFor.{RunStandsFor, belief_seen}
+use Rattle.node_core.proofs.Concerns.{answer_is, no_answer_is, told, reported_below, later, if_none, sent_alike}
 use Rattle.node_core.proofs.state.State.answer_election.Goals as goal
 
 -- what is promised is above what was promised before
@@ -39,6 +40,21 @@ returns-clause-stands c = λ team r s.
       };
       given = s.given;
     })))
+
+pub returns-clause-dropped : goal.returns-clause-dropped
+returns-clause-dropped c = λ team r s.
+    let none : first_refusal (answer_tests team c.args.now.now c.args.from c.args.number c.args.why c.args.t r.process) ≡ None = rw (← s.same_team) (sym (c.refuse_election.ensures.exact r.process s.process) ∙ c.in_default.is) in
+    sym (ap (λ (x : Ruled). x.dropped) (answer_is team c.args.now.now c.args.from c.args.number c.args.why c.args.t r none))
+
+-- a refused one changes nothing
+refused_so : (c : goal.In-Some) (team : Team) (r : Run) → RunStandsFor team c.args.self.now c.args.out.now r → answer_election team c.args.now.now c.args.from c.args.number c.args.why c.args.t r ≡ dropped c.in-Some.reason r
+refused_so c team r s = no_answer_is team c.args.now.now c.args.from c.args.number c.args.why c.args.t r c.in-Some.reason (rw (← s.same_team) (sym (c.refuse_election.ensures.exact r.process s.process) ∙ c.in-Some.is))
+
+pub returns-in-Some-clause-stands : goal.returns-in-Some-clause-stands
+returns-in-Some-clause-stands c = λ team r s. rw (refused_so c team r s) s
+
+pub returns-in-Some-clause-dropped : goal.returns-in-Some-clause-dropped
+returns-in-Some-clause-dropped c = λ team r s. rw (refused_so c team r s) refl
 
 pub returns-clause-gives : goal.returns-clause-gives
 returns-clause-gives c = record {

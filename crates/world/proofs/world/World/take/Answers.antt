@@ -53,3 +53,39 @@ returns-clause-taken c = λ team past stands none.
       c.fill.ensures ∙ rw c.line.ensures (next_row team past c.args.step.now (c.args.self.now.steps + 1) (c.count.result + 1) c.act-answer.new.self.core c.act-answer.result.0 c.act-answer.result.1 c.act-answer.new.out c.shown-entries.result.now
           (ap (λ n. n + 1) stands.steps) count deed (c.shown-entries.ensures.entries team _ deed.running)),
     )
+
+pub note-requires-clause-sound : goal.note-requires-clause-sound
+note-requires-clause-sound c = c.args.self.now.sound
+
+pub note-requires-clause-who : goal.note-requires-clause-who
+note-requires-clause-who c = c.requires.who
+
+pub note-requires-clause-h : goal.note-requires-clause-h
+note-requires-clause-h c = c.requires.h
+
+pub act-answer-requires-clause-h : goal.act-answer-requires-clause-h
+act-answer-requires-clause-h c = c.requires.h
+
+pub act-answer-requires-clause-act : goal.act-answer-requires-clause-act
+act-answer-requires-clause-act c = c.requires.act
+
+pub keep-requires-clause-sound : goal.keep-requires-clause-sound
+keep-requires-clause-sound c = c.args.self.now.sound
+
+pub keep-requires-clause-fits : goal.keep-requires-clause-fits
+keep-requires-clause-fits c =
+    let n = c.args.self.now.team.n in
+    let found = one_of n c.args.self.now.processes.items c.from.result c.index_mut-node.result.now (omega (arith, c.args.self.now.each)) c.index_mut-node.ensures.value c.args.self.now.one_team in
+    c.act-answer.ensures.fits n (c.in_ok-note.ensures.same_team found)
+
+pub keep-requires-clause-room : goal.keep-requires-clause-room
+keep-requires-clause-room c = c.in_ok-reserve.ensures.room
+
+pub fill-requires : goal.fill-requires
+fill-requires c = c.shown-entries.ensures.few
+
+pub returns-clause-steps : goal.returns-clause-steps
+returns-clause-steps c = refl
+
+pub returns-clause-team : goal.returns-clause-team
+returns-clause-team c = refl

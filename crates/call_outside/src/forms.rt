@@ -1,0 +1,342 @@
+//! Calls of `tw_io`.
+//!
+//! `source`, `sink`, `clock` and `link` make the forms in memory, and `steady_source` and `steady_sink` those that never
+//! fail; `pipe` makes the system's forms over the ends of a pipe, and `broken` over a reader and a writer that fail each
+//! time. `read`, `write`, `now`, `bind`, `send` and `recv` call what was made last.
+
+ghost use Rattle.std.specs.Prelude.{◌≡◌, ◌≤◌, true, length};
+ghost use Rattle.tw_io.specs.Arrivals.{bytes_of_all};
+
+use crate::copying::{Copied, copy};
+use call_words::{Calls, Words, shown};
+use std::alloc::{AllocError, Global};
+use std::io;
+use std::io::{PipeReader, PipeWriter};
+use tw_io::{
+    Addr, BytesIn, BytesOut, Came, Clock, Link, LinkFailed, ListClock, ReadFailed, Sink, Source,
+    StandardInput, StandardOutput, SteadyIn, SteadyLink, SteadyOut, WriteFailed,
+};
+
+/// Where a link is bound, and where all comes from and goes to.
+const HOME: Addr = Addr {
+    ip: [127, 0, 0, 1],
+    port: 4000,
+};
+
+/// A reader and a writer of the system that fail each time.
+#[derive(Drop)]
+struct Broken;
+
+impl io::Read for Broken {
+    fn read(&mut self, _buf: &mut [u8]) -> io::Result<usize> {
+        Err(io::Error::from(io::ErrorKind::BrokenPipe))
+    }
+}
+
+impl io::Write for Broken {
+    fn write(&mut self, _buf: &[u8]) -> io::Result<usize> {
+        Err(io::Error::from(io::ErrorKind::BrokenPipe))
+    }
+
+    fn flush(&mut self) -> io::Result<()> {
+        Ok(())
+    }
+}
+
+#[derive(Drop)]
+enum Input {
+    Listed(BytesIn),
+    Steady(SteadyIn),
+    Pipe(StandardInput<PipeReader>),
+    Broken(StandardInput<Broken>),
+}
+
+#[derive(Drop)]
+enum Output {
+    Listed(BytesOut),
+    Steady(SteadyOut),
+    Pipe(StandardOutput<PipeWriter>),
+    Broken(StandardOutput<Broken>),
+}
+
+/// What a read of at most so many bytes gives, at most eight.
+fn read_from<S: Source>(alloc: Global, source: &mut S, size: usize) -> Result<String, AllocError>
+    requires { size ≤ 8 }
+{
+    let mut buf = [0; 8];
+    let given = match source.read(&mut buf[..size]) {
+        Ok(count) => Ok(buf.get(..count).unwrap_or(&buf)),
+        Err(fault) => Err(fault),
+    };
+    shown(alloc, &given)
+}
+
+fn write_to<K: Sink>(sink: &mut K, piece: &[u8]) -> Result<usize, WriteFailed> {
+    sink.write(piece)
+}
+
+fn now_of<C: Clock>(clock: &mut C) -> u64 {
+    clock.now()
+}
+
+fn bind_to<L: Link>(link: &mut L) -> Result<(), LinkFailed> {
+    link.bind(HOME)
+}
+
+fn send_on<L: Link>(link: &mut L, bytes: &[u8]) -> Result<(), LinkFailed> {
+    link.send(HOME, bytes)
+}
+
+/// What has come, and how many bytes of a buffer of zeros are this one then.
+fn recv_from<L: Link>(alloc: Global, link: &mut L, filled: u8) -> Result<String, AllocError> {
+    let mut buf = [0; 4096];
+    let came = link.recv(&mut buf, 0);
+    let mut count = 0u64;
+    for byte in buf {
+        if byte == filled {
+            count = count.saturating_add(1);
+        }
+    }
+    format!(in alloc; "{came:?} {count}")
+}
+
+/// Whether these have so many bytes together.
+fn have_bytes(arrivals: &[Option<Came>], count: usize) -> bool
+    ensures { result ≡ true → bytes_of_all arrivals.now ≡ count }
+{
+    match arrivals {
+        [] => count == 0,
+        [None, rest @ ..] => have_bytes(rest, count),
+        [Some(came), rest @ ..] => came.len <= count && have_bytes(rest, count - came.len),
+    }
+}
+
+/// The next word as numbers with commas between them, or `-` for none.
+fn numbers(alloc: Global, words: &mut Words<'_>) -> Result<Vec<u64>, AllocError> {
+    let mut numbers = Vec::new(alloc);
+    let word = words.word();
+    if word != "-" {
+        for part in word.split(',') {
+            numbers.push(words.number_of(part, u64::MAX))?;
+        }
+    }
+    Ok(numbers)
+}
+
+/// The same as bytes.
+fn bytes(alloc: Global, words: &mut Words<'_>) -> Result<Vec<u8>, AllocError> {
+    let mut bytes = Vec::new(alloc);
+    let word = words.word();
+    if word != "-" {
+        for part in word.split(',') {
+            bytes.push(words.number_of(part, u8::MAX.into()) as u8)?;
+        }
+    }
+    Ok(bytes)
+}
+
+/// The next word as the lengths of what arrives, with `-` where nothing does.
+fn arrivals(alloc: Global, words: &mut Words<'_>) -> Result<Vec<Option<Came>>, AllocError> {
+    let mut items = Vec::new(alloc);
+    for part in words.word().split(',') {
+        let mut item = None;
+        if part != "-" {
+            let len = words.number_of(part, u16::MAX.into()) as usize;
+            item = Some(Came { from: HOME, len });
+        }
+        items.push(item)?;
+    }
+    Ok(items)
+}
+
+// Memory is all that making a form in memory can want.
+
+/// A source of the next word's bytes, and of the calls that fail.
+fn source_of(alloc: Global, words: &mut Words<'_>) -> Result<Input, AllocError> {
+    let bytes = bytes(alloc, words)?;
+    let failing = numbers(alloc, words)?;
+    match BytesIn::new(alloc, &bytes, &failing) {
+        Ok(source) => Ok(Input::Listed(source)),
+        Err(_) => Err(AllocError),
+    }
+}
+
+fn steady_source_of(alloc: Global, words: &mut Words<'_>) -> Result<Input, AllocError> {
+    let bytes = bytes(alloc, words)?;
+    match SteadyIn::new(alloc, &bytes) {
+        Ok(source) => Ok(Input::Steady(source)),
+        Err(_) => Err(AllocError),
+    }
+}
+
+fn sink_of(alloc: Global, words: &mut Words<'_>) -> Result<Output, AllocError> {
+    let room = words.count();
+    let failing = numbers(alloc, words)?;
+    match BytesOut::new(alloc, room, &failing) {
+        Ok(sink) => Ok(Output::Listed(sink)),
+        Err(_) => Err(AllocError),
+    }
+}
+
+fn new_clock(alloc: Global, readings: &[u64]) -> Result<ListClock, AllocError> {
+    ListClock::new(alloc, readings).or(Err(AllocError))
+}
+
+fn new_link(alloc: Global, items: &[Option<Came>], bytes: &[u8]) -> Result<SteadyLink, AllocError>
+    requires { bytes_of_all items.now ≡ length bytes.now }
+{
+    SteadyLink::new(alloc, items, bytes).or(Err(AllocError))
+}
+
+/// A link of what arrives, of how many bytes that is, and of the byte that all of it is made of.
+fn link_of(alloc: Global, words: &mut Words<'_>) -> Result<SteadyLink, AllocError> {
+    let items = arrivals(alloc, words)?;
+    let count = words.count();
+    let bytes = vec![in alloc; words.byte(u8::MAX); count]?;
+    if have_bytes(&items, bytes.len()) {
+        return new_link(alloc, &items, &bytes);
+    }
+    words.are_wrong = true;
+    new_link(alloc, &[], &[])
+}
+
+fn copy_to<S: Source>(source: &mut S, output: &mut Output) -> Copied {
+    match output {
+        Output::Listed(sink) => copy(source, sink),
+        Output::Steady(sink) => copy(source, sink),
+        Output::Pipe(sink) => copy(source, sink),
+        Output::Broken(sink) => copy(source, sink),
+    }
+}
+
+/// What the last lines made.
+#[derive(Drop)]
+pub struct Outside {
+    input: Input,
+    output: Output,
+    clock: ListClock,
+    link: SteadyLink,
+}
+
+impl Calls for Outside {
+    fn call(&mut self, rt: &HostRuntime, words: &mut Words<'_>) -> Result<String, AllocError> {
+        let alloc = rt.alloc();
+        let calls = [
+            "read",
+            "write",
+            "bytes",
+            "copy",
+            "now",
+            "bind",
+            "send",
+            "recv",
+            "texts",
+            "source",
+            "steady_source",
+            "broken_source",
+            "sink",
+            "steady_sink",
+            "broken_sink",
+            "clock",
+            "link",
+            "pipe",
+        ];
+        words.among(&["outside"]);
+        match words.among(&calls) {
+            0 => self.read(alloc, words),
+            1 => self.write(alloc, words),
+            2 => shown(alloc, &self.bytes()),
+            3 => shown(alloc, &self.copied()),
+            4 => shown(alloc, &now_of(&mut self.clock)),
+            5 => shown(alloc, &bind_to(&mut self.link)),
+            6 => self.send(alloc, words),
+            7 => recv_from(alloc, &mut self.link, words.byte(u8::MAX)),
+            8 => format!(in alloc; "{ReadFailed}, {WriteFailed}, {LinkFailed}"),
+            form => {
+                if self.make(rt, form, words).is_err() {
+                    words.are_wrong = true;
+                }
+                Ok(String::new(alloc))
+            }
+        }
+    }
+}
+
+impl Outside {
+    pub fn new(alloc: Global) -> Result<Outside, AllocError> {
+        match (new_clock(alloc, &[]), new_link(alloc, &[], &[])) {
+            (Ok(clock), Ok(link)) => Ok(Outside {
+                input: Input::Broken(StandardInput::new(Broken)),
+                output: Output::Broken(StandardOutput::new(Broken)),
+                clock,
+                link,
+            }),
+            _ => Err(AllocError),
+        }
+    }
+
+    /// Makes what is named at this place among the words of `call`.
+    fn make(&mut self, rt: &HostRuntime, form: usize, words: &mut Words<'_>) -> io::Result<()> {
+        let alloc = rt.alloc();
+        match form {
+            9 => self.input = source_of(alloc, words)?,
+            10 => self.input = steady_source_of(alloc, words)?,
+            11 => self.input = Input::Broken(StandardInput::new(Broken)),
+            12 => self.output = sink_of(alloc, words)?,
+            13 => self.output = Output::Steady(SteadyOut::new()),
+            14 => self.output = Output::Broken(StandardOutput::new(Broken)),
+            15 => self.clock = new_clock(alloc, &numbers(alloc, words)?)?,
+            16 => self.link = link_of(alloc, words)?,
+            17 => {
+                let (reader, writer) = io::pipe(rt)?;
+                self.input = Input::Pipe(StandardInput::new(reader));
+                self.output = Output::Pipe(StandardOutput::new(writer));
+            }
+            _ => {}
+        }
+        Ok(())
+    }
+
+    fn read(&mut self, alloc: Global, words: &mut Words<'_>) -> Result<String, AllocError> {
+        let size = words.byte(8).into();
+        match &mut self.input {
+            Input::Listed(source) => read_from(alloc, source, size),
+            Input::Steady(source) => read_from(alloc, source, size),
+            Input::Pipe(source) => read_from(alloc, source, size),
+            Input::Broken(source) => read_from(alloc, source, size),
+        }
+    }
+
+    fn write(&mut self, alloc: Global, words: &mut Words<'_>) -> Result<String, AllocError> {
+        let piece = bytes(alloc, words)?;
+        let count = match &mut self.output {
+            Output::Listed(sink) => write_to(sink, &piece),
+            Output::Steady(sink) => write_to(sink, &piece),
+            Output::Pipe(sink) => write_to(sink, &piece),
+            Output::Broken(sink) => write_to(sink, &piece),
+        };
+        shown(alloc, &count)
+    }
+
+    /// What a sink in memory has taken.
+    fn bytes(&self) -> &[u8] {
+        match &self.output {
+            Output::Listed(sink) => sink.bytes(),
+            _ => &[],
+        }
+    }
+
+    fn copied(&mut self) -> Copied {
+        match &mut self.input {
+            Input::Listed(source) => copy_to(source, &mut self.output),
+            Input::Steady(source) => copy_to(source, &mut self.output),
+            Input::Pipe(source) => copy_to(source, &mut self.output),
+            Input::Broken(source) => copy_to(source, &mut self.output),
+        }
+    }
+
+    fn send(&mut self, alloc: Global, words: &mut Words<'_>) -> Result<String, AllocError> {
+        let bytes = bytes(alloc, words)?;
+        shown(alloc, &send_on(&mut self.link, &bytes))
+    }
+}

@@ -37,3 +37,4 @@ mod RowWords
 mod RowLines
 mod RowFields
 mod RowOnce
+mod NodeWorked

@@ -31,3 +31,7 @@ pub mod SafeRows
 pub mod ClockLaw
 pub mod RowLimits
 pub mod Types
+pub mod Lives
+pub mod NodeText
+pub mod Record
+pub mod NodeRun

@@ -9,10 +9,10 @@ use Rattle.std.proofs.lemmas.Bool.{le-ltb, lt-ltb, eq-eqb}
 use Rattle.std.proofs.lemmas.Bool.Decides.{nat_tests}
 use Rattle.app_table.specs.Table.{Entry, Ascends}
 use Rattle.app_table.specs.Places.{IsPlace, IsGap}
-use Rattle.app_table.proofs.Entries.{not_equal_below, not_equal_above, all_later, none_below, all_above}
+use Rattle.app_table.specs.Entries.{not_equal_below, not_equal_above, all_later, none_below, all_above}
 
 -- the key at a place
-abbrev key_at : List Entry → ℕ → ℕ
+abbrev pub key_at : List Entry → ℕ → ℕ
 key_at es i = let e = get_or es i (0, 0) in e.0
 
 all_at : (key : ℕ) (es : List Entry) (i : ℕ) → i < length es → AllByRecursion (λ (o : Entry). key < o.0) es → key < key_at es i
@@ -20,7 +20,7 @@ all_at key [] i lt h = absurd (omega arith)
 all_at key (e ∷ es) zero lt h = h.0
 all_at key (e ∷ es) (suc i) lt h = all_at key es i (omega arith) h.1
 
-rises : (es : List Entry) → Ascends es → (i j : ℕ) → i < j → j < length es → key_at es i < key_at es j
+pub rises : (es : List Entry) → Ascends es → (i j : ℕ) → i < j → j < length es → key_at es i < key_at es j
 rises [] up i j lt within = absurd (omega arith)
 rises (e ∷ es) up i zero lt within = absurd (omega arith)
 rises (e ∷ es) up zero (suc j) lt within = all_at e.0 es j (omega arith) up.0

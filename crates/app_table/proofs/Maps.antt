@@ -5,7 +5,7 @@ use Rattle.std.specs.Option.{option_or}
 use Rattle.std.proofs.lemmas.Bool.{eq-eqb}
 use Rattle.std.proofs.lemmas.Bool.Decides.{nat_tests}
 use Rattle.app_table.specs.Table.{Entry, Ascends, value_at, below, above, with_value, without}
-use Rattle.app_table.proofs.Entries.{not_equal_below, not_equal_above, all_later, none_below, all_above, unknown_below}
+use Rattle.app_table.specs.Entries.{not_equal_below, not_equal_above, all_later, none_below, all_above, unknown_below}
 
 -- ---- the value of a key among some of the entries
 

@@ -1,8 +1,10 @@
 //! Laws of machines and tables. Each is the contract of a function that does nothing.
 
-ghost use Rattle.std.specs.Prelude.{◌≡◌, ℕ, ◌<◌, ◌≤◌, ◌≢◌, ◌^◌, ◌==◌, ◌⊎◌, ◌↔◌, if◌then◌else◌, List, [], ◌∷◌, ◌++◌, length, Some, None, IsSome};
+ghost use Rattle.std.specs.Prelude.{◌≡◌, ℕ, ◌<◌, ◌≤◌, ◌≢◌, ◌^◌, ◌==◌, ◌⊎◌, ◌↔◌, if◌then◌else◌, List, [], ◌∷◌, ◌++◌, length, Some, None, IsSome, Option};
+ghost use Rattle.std.specs.List.{AllByRecursion};
 ghost use Rattle.app_table.specs.declared.machine.Applied.TheVariants as answers;
-ghost use Rattle.app_table.specs.Machine.{content_after};
+ghost use Rattle.app_table.specs.Machine.{AreBytes, content_after, snapshots_of, IsStart, IsSnapshotBytes};
+ghost use Rattle.app_table.specs.Snapshots.{IsContent, table_bytes, table_of_bytes};
 ghost use Rattle.app_table.specs.Table.{Entry, IsTable, value_at, with_value, without, key_of, value_of, after_payload, payload_answer, put_payload, remove_payload, after_put, put_answer, remove_answer};
 
 use crate::machine::Machine;
@@ -14,6 +16,25 @@ pub fn one_payload_more<A: Machine>()
         content_after A.after content (payloads ++ payload ∷ []) ≡ A.after (content_after A.after content payloads) payload }
     ensures some { (content : A) (payloads others : List (List ℕ)) →
         content_after A.after content (payloads ++ others) ≡ content_after A.after (content_after A.after content payloads) others }
+{}
+
+/// A snapshot is as good as what it was taken of. Cut a list of payloads anywhere, start from the snapshot there and go on: the snapshot at
+/// the end is the same (`goes_on`). The snapshot of what was reached stands for a content, in 1 to 4,096 bytes (`stands`). And what is restored
+/// from a snapshot and given further payloads is what was snapshot, given them (`restored`).
+pub fn snapshots_go_on<A: Machine>()
+    ensures goes_on { (start : Option (List ℕ)) (payloads others : List (List ℕ)) → IsStart (snapshots_of A.empty A.after A.snapshot_of A.stood_for) start → AllByRecursion AreBytes payloads →
+        (snapshots_of A.empty A.after A.snapshot_of A.stood_for).taken (Some ((snapshots_of A.empty A.after A.snapshot_of A.stood_for).taken start payloads)) others
+            ≡ (snapshots_of A.empty A.after A.snapshot_of A.stood_for).taken start (payloads ++ others) }
+    ensures stands { (start : Option (List ℕ)) (payloads : List (List ℕ)) → IsStart (snapshots_of A.empty A.after A.snapshot_of A.stood_for) start → AllByRecursion AreBytes payloads →
+        IsSnapshotBytes (snapshots_of A.empty A.after A.snapshot_of A.stood_for) ((snapshots_of A.empty A.after A.snapshot_of A.stood_for).taken start payloads) }
+    ensures restored { (content other : A) (payloads : List (List ℕ)) → A.is_content content → A.stood_for (A.snapshot_of content) ≡ Some other →
+        content_after A.after other payloads ≡ content_after A.after content payloads }
+{}
+
+/// Each table has its snapshot, and the bytes that stand for a table are its snapshot: no other bytes do.
+pub fn snapshots_are_of_one_table()
+    ensures again { (entries : List Entry) → IsContent entries → table_of_bytes (table_bytes entries) ≡ Some entries }
+    ensures one { (snapshot : List ℕ) (entries : List Entry) → AreBytes snapshot → table_of_bytes snapshot ≡ Some entries → snapshot ≡ table_bytes entries }
 {}
 
 /// A table is a map. A key that was put has the value, one that was removed has none, and every other key has what it had. It

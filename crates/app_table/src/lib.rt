@@ -11,10 +11,12 @@
 
 mod laws;
 mod machine;
+mod snapshot;
 mod table;
 
 pub use laws::{
-    answers_have_their_causes, commands_have_payloads, one_payload_more, tables_are_maps,
+    answers_have_their_causes, commands_have_payloads, one_payload_more,
+    snapshots_are_of_one_table, snapshots_go_on, tables_are_maps,
 };
-pub use machine::{Applied, Machine};
+pub use machine::{Applied, BadSnapshot, Machine};
 pub use table::Table;

@@ -1,10 +1,12 @@
 //! The table: a map from `u32` to `u64`.
 
-ghost use Rattle.std.specs.Prelude.{◌≡◌, ◌≤◌, nat_le, ℕ, List, [], length, IfOk, MatchResult, vec_capacity};
+ghost use Rattle.std.specs.Prelude.{◌≡◌, ◌≤◌, nat_le, ℕ, List, [], length, true, IfOk, MatchResult, vec_capacity};
+ghost use Rattle.app_table.specs.Snapshots.{IsContent, table_bytes, is_snapshot, entries_of};
 ghost use Rattle.app_table.specs.Table.{IsTable, table_room, key_of, value_of, put_answer, after_put, remove_answer, without};
 ghost use Rattle.app_table.specs.Places.{IsPlace, IsGap};
 
-use crate::machine::{Applied, Machine};
+use crate::machine::{Applied, BadSnapshot, Machine};
+use crate::snapshot;
 use std::alloc::Global;
 use std::marker::Model;
 use tw_num::WantOfMemory;
@@ -24,13 +26,13 @@ pub struct Table {
 
 impl Model for Table {
     ghost use Rattle.std.specs.Prelude.{ℕ, List, ◌≤◌, vec_capacity};
-    ghost use Rattle.app_table.specs.Table.{IsTable};
+    ghost use Rattle.app_table.specs.Snapshots.{IsContent};
 
     ghost Value = { List (ℕ × ℕ) };
 
     ghost view = { λ t. t.entries.items };
 
-    ghost invariant = { λ t. IsTable t.entries.items × (256 ≤ vec_capacity t.entries) };
+    ghost invariant = { λ t. IsContent t.entries.items × (256 ≤ vec_capacity t.entries) };
 }
 
 impl Table {
@@ -91,13 +93,21 @@ impl Table {
 
 impl Machine for Table {
     ghost use Rattle.std.specs.Prelude.{[]};
+    ghost use Rattle.app_table.specs.Snapshots.{IsContent, table_bytes, table_of_bytes};
     ghost use Rattle.app_table.specs.Table.{after_payload, payload_answer};
+    ghost use Rattle.app_table.specs.TableLaws.{table_laws};
 
     ghost empty = { [] };
 
     ghost after = { after_payload };
 
     ghost answer = { payload_answer };
+
+    ghost is_content = { IsContent };
+
+    ghost snapshot_of = { table_bytes };
+
+    ghost stood_for = { table_of_bytes };
 
     fn apply(&mut self, payload: &[u8]) -> Applied {
         match payload.len() {
@@ -106,6 +116,20 @@ impl Machine for Table {
             _ => Applied::BadCommand,
         }
     }
+
+    fn snapshot(&self, out: &mut [u8; 4096]) -> usize {
+        snapshot::write(&self.entries, out)
+    }
+
+    fn restore(&mut self, bytes: &[u8]) -> Result<(), BadSnapshot> {
+        if !snapshot::is_one(bytes) {
+            return Err(BadSnapshot);
+        }
+        fill(&mut self.entries, bytes);
+        Ok(())
+    }
+
+    ghost laws = { table_laws };
 }
 
 /// Where the key stands among entries, or where it would go.
@@ -123,6 +147,19 @@ fn put_over(entries: &mut Vec<(u32, u64)>, place: usize, key: u32, value: u64)
     ensures room { vec_capacity entries.new ≡ vec_capacity entries.old }
 {
     entries[place] = (key, value);
+}
+
+/// Has the entries of a snapshot in place of others.
+fn fill(entries: &mut Vec<(u32, u64)>, bytes: &[u8])
+    requires one { is_snapshot bytes.now ≡ true }
+    requires room { 256 ≤ vec_capacity entries.old }
+    ensures content { entries.new.items ≡ entries_of bytes.now }
+    ensures room { 256 ≤ vec_capacity entries.new }
+{
+    entries.clear();
+    for place in 0..snapshot::count(bytes) {
+        let _ = entries.push(snapshot::entry(bytes, place));
+    }
 }
 
 /// The key in the first four bytes.

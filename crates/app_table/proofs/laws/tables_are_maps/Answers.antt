@@ -1,4 +1,4 @@
-use Rattle.app_table.proofs.Entries.{table_after}
+use Rattle.app_table.specs.Entries.{table_after}
 use Rattle.app_table.proofs.Maps.{value_after_put, value_after_removal, nothing_removed, one_list}
 use Rattle.app_table.proofs.laws.tables_are_maps.Goals as goal
 

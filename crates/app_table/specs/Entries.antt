@@ -20,7 +20,7 @@ pub all_weaker : {X : Type 0} (P Q : X → Type 0) → ((e : X) → P e → Q e)
 all_weaker P Q f [] h = tt
 all_weaker P Q f (e ∷ es) h = (f e h.0, all_weaker P Q f es h.1)
 
-all_filter : {X : Type 0} (P : X → Type 0) (p : X → Bool) (es : List X) → AllByRecursion P es → AllByRecursion P (filter p es)
+pub all_filter : {X : Type 0} (P : X → Type 0) (p : X → Bool) (es : List X) → AllByRecursion P es → AllByRecursion P (filter p es)
 all_filter P p [] h = tt
 all_filter P p (e ∷ es) h = go (p e) (all_filter P p es h.1)
   where
@@ -28,7 +28,7 @@ all_filter P p (e ∷ es) h = go (p e) (all_filter P p es h.1)
     go true rest = (h.0, rest)
     go false rest = rest
 
-all_joined : {X : Type 0} (P : X → Type 0) (xs ys : List X) → AllByRecursion P xs → AllByRecursion P ys → AllByRecursion P (xs ++ ys)
+pub all_joined : {X : Type 0} (P : X → Type 0) (xs ys : List X) → AllByRecursion P xs → AllByRecursion P ys → AllByRecursion P (xs ++ ys)
 all_joined P [] ys a b = b
 all_joined P (x ∷ xs) ys a b = (a.0, all_joined P xs ys a.1 b)
 

@@ -31,3 +31,4 @@ pub mod Sends
 pub mod Logs
 pub mod Appending
 pub mod Deliveries
+pub mod Collections

@@ -1,3 +1,4 @@
 pub mod Pieces
 pub mod Incoming
 pub mod Answers
+pub mod Transfers

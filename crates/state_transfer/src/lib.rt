@@ -9,7 +9,9 @@
 #![tactic(auto)]
 
 mod incoming;
+mod laws;
 mod serving;
 
 pub use incoming::{Incoming, Take};
+pub use laws::pieces_make_their_snapshot;
 pub use serving::serve_chunk;

@@ -8,6 +8,7 @@ mod list;
 mod ordering;
 mod store;
 mod tables;
+mod transfer;
 mod updates;
 
 use app_table::Table;
@@ -15,6 +16,7 @@ use call_words::{Calls, Words, run};
 use clock_sync::TeamClock;
 use list::Lists;
 use ordering::Orderings;
+use state_transfer::Incoming;
 use std::alloc::AllocError;
 use std::io;
 use store::Stores;
@@ -27,13 +29,14 @@ struct Made {
     orderings: Orderings,
     stores: Stores,
     table: Table,
+    incoming: Incoming,
 }
 
 impl Calls for Made {
     fn call(&mut self, rt: &HostRuntime, words: &mut Words<'_>) -> Result<String, AllocError> {
         let alloc = rt.alloc();
         let libraries = [
-            "clock", "delivery", "detector", "list", "order", "store", "table",
+            "clock", "delivery", "detector", "list", "order", "store", "table", "transfer",
         ];
         match words.among(&libraries) {
             0 => clock::call(&mut self.clock, alloc, words),
@@ -43,6 +46,7 @@ impl Calls for Made {
             4 => self.orderings.call(alloc, &self.stores, words),
             5 => self.stores.call(alloc, words),
             6 => tables::call(&mut self.table, alloc, words),
+            7 => transfer::call(&mut self.incoming, alloc, words),
             _ => Ok(String::new(alloc)),
         }
     }
@@ -50,14 +54,20 @@ impl Calls for Made {
 
 fn main(rt: HostRuntime) -> io::Result<()> {
     let alloc = rt.alloc();
-    match (Lists::new(alloc), Stores::new(alloc), tables::new(alloc)) {
-        (Ok(lists), Ok(stores), Ok(table)) => {
+    match (
+        Lists::new(alloc),
+        Stores::new(alloc),
+        tables::new(alloc),
+        transfer::new(alloc),
+    ) {
+        (Ok(lists), Ok(stores), Ok(table), Ok(incoming)) => {
             let mut made = Made {
                 clock: TeamClock::new(0, 1000),
                 orderings: Orderings::new(),
                 lists,
                 stores,
                 table,
+                incoming,
             };
             run(&rt, &mut made)
         }

@@ -20,7 +20,6 @@ some_same a b e = cc
 
 module _ {Content : Type 0} (IsContent : Content → Type 0) (empty : Content) (after : Content → List ℕ → Content) (bytes : Content → List ℕ) (stood_for : List ℕ → Option Content)
     (laws : MachineLaws IsContent empty after bytes stood_for) where
-
   stays : (content : Content) (payloads : List (List ℕ)) → IsContent content → AllByRecursion AreBytes payloads → IsContent (content_after after content payloads)
   stays content [] is all = is
   stays content (p ∷ ps) is all = stays (after content p) ps (laws.after_is content p is all.0) all.1

@@ -66,7 +66,7 @@ key_there n place bytes e lt is = ap (λ (x : Entry). x.0) (entry_there n place 
 
 pub one_neighbour_more : (es : List Entry) (place : ℕ) → 1 ≤ place → ((j : ℕ) → suc j < place → key_at es j < key_at es (suc j)) → key_at es (place - 1) < key_at es place →
     (j : ℕ) → suc j < place + 1 → key_at es j < key_at es (suc j)
-one_neighbour_more es place least h new j lt = elim (cases_lt (suc j) place) [ | inl before ↦ h j before | inr le ↦ last (omega arith) (omega arith) ]
+one_neighbour_more es place least h new j lt = elim (cases_lt (suc j) place) [ inl before ↦ h j before | inr le ↦ last (omega arith) (omega arith) ]
   where
     last : place - 1 ≡ j → place ≡ suc j → key_at es j < key_at es (suc j)
     last one other = omega (arith, new, ap (key_at es) one, ap (key_at es) other)
@@ -99,7 +99,7 @@ put_behind old front text now new end len is put =
     let taken : take end now ≡ front = ap (take end) is ∙ take_at front (drop end old) end len in
     let left : drop end now ≡ drop end old = ap (drop end) is ∙ drop_at front (drop end old) end len in
     let behind : drop (end + length text) now ≡ drop (end + length text) old =
-        ap (λ (k : ℕ). drop k now) (omega arith) ∙ sym (drop-drop (length text) end now) ∙ ap (drop (length text)) left ∙ drop-drop (length text) end old ∙ ap (λ (k : ℕ). drop k old) (omega arith) in
+    ap (λ (k : ℕ). drop k now) (omega arith) ∙ sym (drop-drop (length text) end now) ∙ ap (drop (length text)) left ∙ drop-drop (length text) end old ∙ ap (λ (k : ℕ). drop k old) (omega arith) in
     put ∙ rw (taken, behind) (sym (append_assoc front text (drop (end + length text) old)))
 
 -- the count, and the first entries
@@ -160,7 +160,7 @@ bytes_back bytes h t =
     let count : to_be_bytes w16 (count_in bytes) ≡ take 2 bytes = be_bytes_2 (take 2 bytes) _ (omega (arith, length-take 2 bytes)) (byte_at (take 2 bytes) (taken_bytes 2 bytes h)) refl in
     let entries = entries_back (count_in bytes) (drop 2 bytes) (left_bytes 2 bytes h) (omega (arith, length-drop 2 bytes)) in
     sym (ap (λ (k : ℕ). to_be_bytes w16 k ++ flat_map entry_bytes (entries_of bytes)) (length_entries (count_in bytes) (drop 2 bytes))
-      ∙ ap (λ (xs : List ℕ). xs ++ flat_map entry_bytes (entries_of bytes)) count ∙ ap (λ (xs : List ℕ). take 2 bytes ++ xs) entries ∙ halves 2 bytes)
+    ∙ ap (λ (xs : List ℕ). xs ++ flat_map entry_bytes (entries_of bytes)) count ∙ ap (λ (xs : List ℕ). take 2 bytes ++ xs) entries ∙ halves 2 bytes)
 
 some_is : (a b : List Entry) → Some a ≡ Some b → a ≡ b
 some_is a b e = cc

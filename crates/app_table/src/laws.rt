@@ -24,7 +24,7 @@ pub fn one_payload_more<A: Machine>()
 pub fn snapshots_go_on<A: Machine>()
     ensures goes_on { (start : Option (List ℕ)) (payloads others : List (List ℕ)) → IsStart (snapshots_of A.empty A.after A.snapshot_of A.stood_for) start → AllByRecursion AreBytes payloads →
         (snapshots_of A.empty A.after A.snapshot_of A.stood_for).taken (Some ((snapshots_of A.empty A.after A.snapshot_of A.stood_for).taken start payloads)) others
-            ≡ (snapshots_of A.empty A.after A.snapshot_of A.stood_for).taken start (payloads ++ others) }
+        ≡ (snapshots_of A.empty A.after A.snapshot_of A.stood_for).taken start (payloads ++ others) }
     ensures stands { (start : Option (List ℕ)) (payloads : List (List ℕ)) → IsStart (snapshots_of A.empty A.after A.snapshot_of A.stood_for) start → AllByRecursion AreBytes payloads →
         IsSnapshotBytes (snapshots_of A.empty A.after A.snapshot_of A.stood_for) ((snapshots_of A.empty A.after A.snapshot_of A.stood_for).taken start payloads) }
     ensures restored { (content other : A) (payloads : List (List ℕ)) → A.is_content content → A.stood_for (A.snapshot_of content) ≡ Some other →

@@ -89,7 +89,11 @@ fn shown_piece(alloc: Global, body: &Body) -> Result<String, AllocError> {
 
 /// `new`; `take` with the sender, the followed decision's group and length, and the piece; `bytes`, which tells how many there are and whether
 /// they are the snapshot's; `clear`; and `serve` with the piece, which tells the total, how long the piece is, and whether it was cut right.
-pub fn call(incoming: &mut Incoming, alloc: Global, words: &mut Words<'_>) -> Result<String, AllocError> {
+pub fn call(
+    incoming: &mut Incoming,
+    alloc: Global,
+    words: &mut Words<'_>,
+) -> Result<String, AllocError> {
     match words.among(&["new", "take", "bytes", "clear", "serve"]) {
         0 => {
             *incoming = new(alloc)?;

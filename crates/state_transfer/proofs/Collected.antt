@@ -63,7 +63,6 @@ pub record IsTaken (o : Of) (p : Piece) (kept kept' : Option Of) (marks marks' :
   pub is_put : room' ≡ put_at start p.bytes room
 
 module _ (o : Of) (p : Piece) (kept kept' : Option Of) (marks marks' : List Bool) (room room' : List ℕ) (start : ℕ) (t : IsTaken o p kept kept' marks marks' room room' start) where
-
   place_is : start / 1024 ≡ p.offset / 1024
   place_is = ap (λ (n : ℕ). n / 1024) t.starts
 
@@ -97,5 +96,5 @@ module _ (o : Of) (p : Piece) (kept kept' : Option Of) (marks marks' : List Bool
       let most : o.total ≤ 4096 = (let a = t.of.total in let b = t.most in omega arith) in
       let four : length (set marks' (start / 1024) true) ≡ 4 = length-set marks' (start / 1024) true ∙ t.four in
       let test : is_whole (collection_of o (set marks' (start / 1024) true) room') ≡ whole =
-          whole_is o (set marks' (start / 1024) true) room' most four ∙ ap (λ (n : ℕ). list_all (λ (mark : Bool). mark) (take ((n + 1023) / 1024) (set marks' (start / 1024) true))) (sym t.of.total) ∙ sym is in
+      whole_is o (set marks' (start / 1024) true) room' most four ∙ ap (λ (n : ℕ). list_all (λ (mark : Bool). mark) (take ((n + 1023) / 1024) (set marks' (start / 1024) true))) (sym t.of.total) ∙ sym is in
       ap joined_answer (sym puts_it) ∙ ap (λ (b : Bool). cond b (Whole o.position) Part) test ∙ ap (λ (n : ℕ). cond whole (Whole n) Part) (sym t.of.position)

@@ -77,15 +77,14 @@ pub record IsPut (total k : ℕ) (text room : List ℕ) : Type 0 where
   pub within : k * piece_size + length text ≤ length room
 
 module _ (total k : ℕ) (marks : List Bool) (text room : List ℕ) (put : IsPut total k text room) (mark : k < length marks) where
-
   abbrev new : List ℕ
   new = put_at (k * piece_size) text room
 
   part_kept : (place : ℕ) → place ≢ k → take (piece_length total place) (drop (place * piece_size) new) ≡ take (piece_length total place) (drop (place * piece_size) room)
   part_kept place ne = let within = put.within in let long = put.long in elim (cases_lt place k) [
-      | inl lt ↦ before_part (place * piece_size) (k * piece_size) (piece_length total place) text room (omega arith) (omega arith)
-      | inr le ↦ (let above : k < place = more le in ap (take (piece_length total place)) (behind_part (place * piece_size) (k * piece_size) text room (omega arith) (omega (arith, above))))
-    ]
+    | inl lt ↦ before_part (place * piece_size) (k * piece_size) (piece_length total place) text room (omega arith) (omega arith)
+    | inr le ↦ (let above : k < place = more le in ap (take (piece_length total place)) (behind_part (place * piece_size) (k * piece_size) text room (omega arith) (omega (arith, above))))
+  ]
     where
       more : k ≤ place → k < place
       more le = grind (arith, ne)
@@ -124,7 +123,7 @@ rest_at room k a b (inl full) = ap (λ (i : ℕ). take b (drop (k + i) room)) (s
 rest_at room k a b (inr none) = rw none refl
 
 full_or_last : (left n : ℕ) → (min piece_size left ≡ piece_size) ⊎ (min (n * piece_size) (left - piece_size) ≡ 0)
-full_or_last left n = elim (cases_lt left piece_size) [ | inl lt ↦ inr (omega arith) | inr le ↦ inl (omega arith) ]
+full_or_last left n = elim (cases_lt left piece_size) [ inl lt ↦ inr (omega arith) | inr le ↦ inl (omega arith) ]
 
 lengths : (left n : ℕ) → min piece_size left + min (n * piece_size) (left - piece_size) ≡ min (suc n * piece_size) left
 lengths left n = omega arith
@@ -154,9 +153,9 @@ whole_bytes_from total marks room (suc n) place all = go (get_or marks place fal
     go : (b : Bool) → get_or marks place false ≡ b →
         (is_some (cond b (Some (take (piece_length total place) (drop (place * piece_size) room))) None) && list_all is_some (pieces_in total marks room (suc place) n)) ≡ true →
         (list_all is_some (pieces_in total marks room (suc place) n) ≡ true →
-          flat_map piece_bytes (pieces_in total marks room (suc place) n) ≡ take (min (n * piece_size) (total - suc place * piece_size)) (drop (suc place * piece_size) room)) →
+        flat_map piece_bytes (pieces_in total marks room (suc place) n) ≡ take (min (n * piece_size) (total - suc place * piece_size)) (drop (suc place * piece_size) room)) →
         piece_bytes (cond b (Some (take (piece_length total place) (drop (place * piece_size) room))) None) ++ flat_map piece_bytes (pieces_in total marks room (suc place) n)
-          ≡ take (min (suc n * piece_size) (total - place * piece_size)) (drop (place * piece_size) room)
+        ≡ take (min (suc n * piece_size) (total - place * piece_size)) (drop (place * piece_size) room)
     go true is rest more = ap (λ (xs : List ℕ). take (piece_length total place) (drop (place * piece_size) room) ++ xs) (more rest) ∙ parts total place n room
     go false is rest more = absurd cc
 
@@ -171,6 +170,6 @@ whole_bytes total marks room all = whole_bytes_from total marks room (place_coun
 
 pub cut_is : (s : List ℕ) (o e : ℕ) → e ≡ min (o + 1024) (length s) → take (e - o) (drop o s) ≡ take 1024 (drop o s)
 cut_is s o e is = elim (cases_lt (length s) (o + 1024)) [
-    | inl lt ↦ take_all (e - o) (drop o s) (omega (arith, length-drop o s)) ∙ sym (take_all 1024 (drop o s) (omega (arith, length-drop o s)))
-    | inr le ↦ (let full : e - o ≡ 1024 = omega arith in ap (λ (n : ℕ). take n (drop o s)) full)
-  ]
+  | inl lt ↦ take_all (e - o) (drop o s) (omega (arith, length-drop o s)) ∙ sym (take_all 1024 (drop o s) (omega (arith, length-drop o s)))
+  | inr le ↦ (let full : e - o ≡ 1024 = omega arith in ap (λ (n : ℕ). take n (drop o s)) full)
+]

@@ -59,7 +59,6 @@ marks_after followed [] marks = marks
 marks_after followed (p ∷ ps) marks = marks_after followed ps (cond (is_foreign followed p) marks (set marks (p.offset / piece_size) true))
 
 module _ (followed : Decision) (from position : ℕ) (snapshot : List ℕ) (most : length snapshot ≤ 4096) where
-
   abbrev count : ℕ
   count = place_count (length snapshot)
 
@@ -88,9 +87,9 @@ module _ (followed : Decision) (from position : ℕ) (snapshot : List ℕ) (most
 
   own_bytes : (p : Piece) → IsCut from followed.group position snapshot p → p.bytes ≡ take (length p.bytes) (drop p.offset snapshot)
   own_bytes p is = elim (cases_lt (length snapshot - p.offset) 1024) [
-      | inl lt ↦ (let len = length_cut p is in is.bytes ∙ take_all 1024 (drop p.offset snapshot) (omega (arith, length-drop p.offset snapshot)) ∙ sym (take_all (length p.bytes) (drop p.offset snapshot) (omega (arith, length-drop p.offset snapshot, len))))
-      | inr le ↦ (let len = length_cut p is in let full : 1024 ≡ length p.bytes = omega (arith, len) in is.bytes ∙ ap (λ (n : ℕ). take n (drop p.offset snapshot)) full)
-    ]
+    | inl lt ↦ (let len = length_cut p is in is.bytes ∙ take_all 1024 (drop p.offset snapshot) (omega (arith, length-drop p.offset snapshot)) ∙ sym (take_all (length p.bytes) (drop p.offset snapshot) (omega (arith, length-drop p.offset snapshot, len))))
+    | inr le ↦ (let len = length_cut p is in let full : 1024 ≡ length p.bytes = omega (arith, len) in is.bytes ∙ ap (λ (n : ℕ). take n (drop p.offset snapshot)) full)
+  ]
 
   puts : (p : Piece) (marks : List Bool) → length marks ≡ 4 → IsCut from followed.group position snapshot p → with_piece p (made marks) ≡ made (set marks (p.offset / piece_size) true)
   puts p marks four is =
@@ -102,7 +101,7 @@ module _ (followed : Decision) (from position : ℕ) (snapshot : List ℕ) (most
       let put : IsPut (length snapshot) k p.bytes snapshot = record { long = omega (arith, len); within = omega (arith, len) } in
       let again : put_at (k * piece_size) p.bytes snapshot ≡ snapshot = put_again (k * piece_size) snapshot p.bytes (own_bytes p is ∙ ap (λ (n : ℕ). take (length p.bytes) (drop n snapshot)) (sym start)) in
       ap (λ (xs : List (Option (List ℕ))). record { from = from; position = position; total = length snapshot; pieces = xs })
-        (sym (pieces_put (length snapshot) k marks p.bytes snapshot put (omega arith) count) ∙ ap (λ (xs : List ℕ). pieces_in (length snapshot) (set marks k true) xs 0 count) again)
+      (sym (pieces_put (length snapshot) k marks p.bytes snapshot put (omega arith) count) ∙ ap (λ (xs : List ℕ). pieces_in (length snapshot) (set marks k true) xs 0 count) again)
 
   step : (p : Piece) (c : Option Collection) (marks : List Bool) → length marks ≡ 4 → (is_foreign followed p ≡ true) ⊎ IsCut from followed.group position snapshot p → Holds c marks →
       Holds (after_piece followed p c) (cond (is_foreign followed p) marks (set marks (p.offset / piece_size) true))
@@ -138,10 +137,13 @@ module _ (followed : Decision) (from position : ℕ) (snapshot : List ℕ) (most
     where
       times : p.offset / piece_size * piece_size ≡ p.offset
       times = let aligned = cut.aligned in omega arith
+
       place : nat_eq p.offset (k * piece_size) ≡ true → p.offset / piece_size ≡ k
       place e = let t = times in let same : p.offset ≡ k * piece_size = grind (arith, nat_tests) in omega arith
+
       other : nat_eq p.offset (k * piece_size) ≡ false → k ≢ p.offset / piece_size
       other e same = let t = times in let at : p.offset ≡ k * piece_size = omega (arith, same, t) in let yes = eq-eqb p.offset (k * piece_size) at in absurd cc
+
       go : (b : Bool) → nat_eq p.offset (k * piece_size) ≡ b → get_or (set marks (p.offset / piece_size) true) k false ≡ (get_or marks k false || b)
       go true e = ap (λ (i : ℕ). get_or (set marks i true) k false) (place e) ∙ get_or-set_same marks k true false (omega arith) ∙ or_true (get_or marks k false)
       go false e = get_or-set_other marks (p.offset / piece_size) k true false (other e) ∙ or_false (get_or marks k false)
@@ -236,7 +238,7 @@ module _ (followed : Decision) (from position : ℕ) (snapshot : List ℕ) (most
   whole_answer ps p are cut near all =
       let f = few in
       let marks : list_all (λ (mark : Bool). mark) (take count (then_marks ps p)) ≡ true =
-          all_marked (then_marks ps p) count (let four = then_four ps p in omega arith) (λ k lt. then_came ps p are cut near k (omega arith) ∙ all k lt) in
+      all_marked (then_marks ps p) count (let four = then_four ps p in omega arith) (λ k lt. then_came ps p are cut near k (omega arith) ∙ all k lt) in
       answer_is ps p are cut near ∙ ap (λ (b : Bool). cond b (Whole position) Part) (marks_whole (then_marks ps p) (then_four ps p) ∙ marks)
 
   pub part_answer : (ps : List Piece) (p : Piece) → AreCuts followed from position snapshot ps → Cut p → is_foreign followed p ≡ false → (AllCame followed (p ∷ ps) (length snapshot) → ⊥) →

@@ -190,19 +190,19 @@ pub record Turn : Type 0 where
 
 abbrev pub turn_by : {Content : Type 0} → Node Content → ℕ → Item → List Input → Between → Turn
 turn_by n h item own b =
-  let before : List Happening = all_happened n h own b.happened in
-  let first : List Told = all_told n b.events h own b.happened in
-  let second : List Told = all_told n (b.events + length own) h (inputs_of item) before in
-  record {
-    events = first ++ second;
-    calls = flat_map (calls_of n.text) (first ++ second) ++ answer_call item second;
-    next = record {
-      happened = all_happened n h (inputs_of item) before;
-      events = b.events + length own + length (inputs_of item);
-      last = h;
-      given = if is_due n.text n.who h b.given then Some h else b.given;
-    };
-  }
+    let before : List Happening = all_happened n h own b.happened in
+    let first : List Told = all_told n b.events h own b.happened in
+    let second : List Told = all_told n (b.events + length own) h (inputs_of item) before in
+    record {
+      events = first ++ second;
+      calls = flat_map (calls_of n.text) (first ++ second) ++ answer_call item second;
+      next = record {
+        happened = all_happened n h (inputs_of item) before;
+        events = b.events + length own + length (inputs_of item);
+        last = h;
+        given = if is_due n.text n.who h b.given then Some h else b.given;
+      };
+    }
 
 abbrev pub turn : {Content : Type 0} → Node Content → ℕ → Item → Between → Turn
 turn n h item b = turn_by n h item (own_reference n.text n.who h b.given) b
@@ -232,12 +232,12 @@ behind t rest = record { events = t.events ++ rest.events; calls = t.calls ++ re
 abbrev pub turns_from : {Content : Type 0} → Node Content → ℕ → List ℕ → List Item → Between → NodeRun
 turns_from n zero readings items b = ended Turned
 turns_from n (suc left) readings items b =
-  let h : ℕ = next_reading b.last readings in
-  let item : Item = next_item items in
-  let t : Turn = turn n h item b in
-  if is_spent h then ended Spent
-  else if stops item then behind t (ended Stopped)
-  else behind t (turns_from n left (readings_left readings) (items_left items) t.next)
+    let h : ℕ = next_reading b.last readings in
+    let item : Item = next_item items in
+    let t : Turn = turn n h item b in
+    if is_spent h then ended Spent
+    else if stops item then behind t (ended Stopped)
+    else behind t (turns_from n left (readings_left readings) (items_left items) t.next)
 
 -- a node before its first turn
 abbrev pub at_start : ℕ → Between
@@ -246,9 +246,9 @@ at_start h = record { happened = []; events = 0; last = h; given = None }
 -- The run of a node over readings and items. The first reading is the one at which its process starts.
 abbrev pub node_run : {Content : Type 0} → Meaning Content → Wire → NodeText → ℕ → Mode → ℕ → List ℕ → List Item → NodeRun
 node_run meaning wire text who mode turns readings items =
-  let h : ℕ = next_reading 0 readings in
-  if is_spent h then ended Spent
-  else turns_from (record { meaning = meaning; wire = wire; text = text; who = who; mode = mode; began = h }) turns (readings_left readings) items (at_start h)
+    let h : ℕ = next_reading 0 readings in
+    if is_spent h then ended Spent
+    else turns_from (record { meaning = meaning; wire = wire; text = text; who = who; mode = mode; began = h }) turns (readings_left readings) items (at_start h)
 
 -- the record of a run; a node whose first reading is spent writes nothing
 abbrev pub run_text : NodeText → ℕ → Mode → List ℕ → NodeRun → List ℕ

@@ -8,7 +8,8 @@ use Rattle.tw_types.specs.Process.{Process}
 use Rattle.tw_machine.specs.Dispatches.{Dispatch}
 use Rattle.tw_machine.specs.World.{receive, deed, deed_in, world}
 use Rattle.tw_machine.proofs.Tables.{equal_numbers}
-use Rattle.world.specs.Columns.{Life, record_of, received, life_after, life_in}
+use Rattle.tw_machine.specs.Lives.{Life, record_of}
+use Rattle.world.specs.Columns.{received, life_after, life_in}
 
 received_deed : (team : Team) (who h : ℕ) (d : Option Dispatch) (life : Life) → (receive team h d (record_of team who life)).process ≡ Some (record_of team who (received h d life))
 received_deed team who h None life = refl

@@ -4,7 +4,8 @@ ghost use Rattle.std.specs.Prelude.{◌≡◌, ℕ, List};
 ghost use Rattle.std.specs.Option.{option_map};
 ghost use Rattle.tw_machine.specs.Types.{Team, Step};
 ghost use Rattle.tw_machine.specs.World.{world};
-ghost use Rattle.world.specs.Columns.{record_of, life_in};
+ghost use Rattle.tw_machine.specs.Lives.{record_of};
+ghost use Rattle.world.specs.Columns.{life_in};
 
 /// A process of a schedule is what it makes of the events of its present life, at their readings, and of nothing else: so
 /// whatever reads the same events at the same readings is that process.

@@ -12,7 +12,7 @@ returns-then-key-before c =
     let before = key_there c.args.count (c.loop-place.place - 1) c.args.bytes.now c.entry-before.result (omega arith) c.entry-before.ensures in
     let key = key_there c.args.count c.loop-place.place c.args.bytes.now c.entry-key.result within c.entry-key.ensures in
     sym (falls (entries_in c.args.count (drop 2 c.args.bytes.now)) (c.loop-place.place - 1) c.loop-place.place (omega arith)
-      (omega (arith, length_entries c.args.count (drop 2 c.args.bytes.now))) (grind (arith, nat_tests, before, key, c.if-key-before.true)))
+    (omega (arith, length_entries c.args.count (drop 2 c.args.bytes.now))) (grind (arith, nat_tests, before, key, c.if-key-before.true)))
 
 pub loop-place-preserved : goal.loop-place-preserved
 loop-place-preserved c =

@@ -6,7 +6,7 @@ pub loop-key-preserved : goal.loop-key-preserved
 loop-key-preserved c = (
   omega (arith, c.loop-key.invariant.0),
   written_more c.args.entries.now c.loop-key.key-index c.args.out.now c.loop-key.out c.put-in-loop-key.new.out c.bytes_of.result c.loop-key.end c.loop-key-test.true
-    c.bytes_of.ensures c.loop-key.invariant.0 c.loop-key.invariant.1 c.put-in-loop-key.ensures,
+      c.bytes_of.ensures c.loop-key.invariant.0 c.loop-key.invariant.1 c.put-in-loop-key.ensures,
 )
 
 pub returns-clause-length : goal.returns-clause-length

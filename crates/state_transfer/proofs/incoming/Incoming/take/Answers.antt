@@ -10,7 +10,6 @@ use Rattle.state_transfer.proofs.incoming.Incoming.take.Goals as goal
 use Rattle.state_transfer.proofs.incoming.Incoming.take.Goals.{then-is_whole, else-is_whole}
 
 module _ (c : goal.Joined-is_whole) where
-
   abbrev of : Of
   of = record { from = c.args.from; position = c.in-State.position; total = c.in-State.total }
 
@@ -56,9 +55,9 @@ module _ (c : goal.Joined-is_whole) where
 
 pub returns-clause-answer : goal.returns-clause-answer
 returns-clause-answer c = elim c.if-is_whole.branch [
-    | then-is_whole w ↦ ap taken_as w.result-is ∙ sym (tells c ∙ ap (λ (b : Bool). cond b (Whole c.in-State.position) Part) w.if-is_whole.true)
-    | else-is_whole w ↦ ap taken_as w.result-is ∙ sym (tells c ∙ ap (λ (b : Bool). cond b (Whole c.in-State.position) Part) w.if-is_whole.false)
-  ]
+  | then-is_whole w ↦ ap taken_as w.result-is ∙ sym (tells c ∙ ap (λ (b : Bool). cond b (Whole c.in-State.position) Part) w.if-is_whole.true)
+  | else-is_whole w ↦ ap taken_as w.result-is ∙ sym (tells c ∙ ap (λ (b : Bool). cond b (Whole c.in-State.position) Part) w.if-is_whole.false)
+]
 
 pub returns-clause-collection : goal.returns-clause-collection
 returns-clause-collection c =

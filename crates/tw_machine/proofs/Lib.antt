@@ -20,6 +20,7 @@ mod HistoryWorked
 mod Forged
 mod EntriesWorked
 mod SendsWorked
+mod Pinned
 mod SendsScheduled
 mod SendsHistory
 mod DeliveriesScheduled

@@ -20,6 +20,7 @@ mod HistoryWorked
 mod Forged
 mod EntriesWorked
 mod SendsWorked
+pub mod Untimely
 mod Pinned
 mod SendsScheduled
 mod SendsHistory

@@ -9,6 +9,7 @@ pub mod Sending
 pub mod Beating
 pub mod Standing
 pub mod Control
+pub mod Untimely
 pub mod Entering
 pub mod Taking
 pub mod Electing

@@ -24,6 +24,7 @@ ghost use Rattle.tw_machine.specs.Step.{step};
 ghost use Rattle.tw_types.specs.Process.{Process};
 ghost use Rattle.tw_machine.specs.Standing.{member_of, last_decision};
 ghost use Rattle.tw_machine.specs.Control.{rate_of, timely_reading};
+ghost use Rattle.tw_machine.specs.Untimely.{is_used_in_time, DropsUntimely};
 ghost use Rattle.tw_machine.specs.Taking.{decision_tests};
 ghost use Rattle.tw_machine.specs.Electing.{drop_ballot, answer_tests, holds_election, begin_election};
 ghost use Rattle.tw_machine.specs.Deciding.{has_turn, take_turn};
@@ -82,6 +83,14 @@ pub fn timely_datagrams_are_done()
     ensures promise { (team : Team) (now : Moment) (head : Head) (p : Promise) (r : Run) (t : ℕ) →
         timely_reading (rate_of team now head) now.reading ≡ Ok t → wants p r.process.ballot ≡ true →
         (kind_rule team now head (Body.Promise p.number p.report p.decision) r).dropped ≡ None }
+{}
+
+/// A decision, an election or a promise, to whatever process: it is dropped as unrated exactly where nothing bounds how long it was under
+/// way, else as late exactly where that is too long, with the bound, else as unsynced exactly where the process has no reading; and then
+/// its rule leaves all as it was.
+pub fn untimely_datagrams_are_dropped()
+    ensures exact { (team : Team) (now : Moment) (head : Head) (body : Body) (r : Run) → is_used_in_time body ≡ true →
+        DropsUntimely (rate_of team now head) now.reading r (kind_rule team now head body r) }
 {}
 
 /// A send is refused exactly where its cause is there, which is told first, and then leaves all as it was but for what the duties

@@ -22,6 +22,7 @@ mod EntriesWorked
 mod SendsWorked
 pub mod Untimely
 mod Pinned
+mod PinnedSteps
 mod SendsScheduled
 mod SendsHistory
 mod DeliveriesScheduled

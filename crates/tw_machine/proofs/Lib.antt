@@ -21,6 +21,7 @@ mod Forged
 mod EntriesWorked
 mod SendsWorked
 pub mod Untimely
+pub mod LateOnes
 mod Pinned
 mod PinnedSteps
 mod SendsScheduled

@@ -70,8 +70,10 @@ timely_drops : (team : Team) (now : Moment) (head : Head) (rule : ℕ → Run �
 timely_drops team now head rule r apart = go (rate_of team now head) now.reading
   where
     go : (rate : Rate) (reading : Option ℕ) → DropsUntimely rate reading r (elim (timely_reading rate reading) as (λ o. Ruled) [ Err reason ↦ dropped reason r | Ok t ↦ rule t r ])
-    go Unrated reading = refl
-    go (Late bound) reading = refl
+    go Unrated None = refl
+    go Unrated (Some t) = refl
+    go (Late bound) None = refl
+    go (Late bound) (Some t) = refl
     go (Timely bound) None = refl
     go (Timely bound) (Some t) = ((λ e. absurd (let no : true ≡ false = apart t reasons.Unrated e in cc)), (λ late e. absurd (let no : true ≡ false = apart t (reasons.Late late) e in cc)), (λ e. absurd (let no : true ≡ false = apart t reasons.Unsynced e in cc)))
 

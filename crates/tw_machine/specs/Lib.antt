@@ -10,6 +10,7 @@ pub mod Beating
 pub mod Standing
 pub mod Control
 pub mod Untimely
+pub mod LateOnes
 pub mod Entering
 pub mod Taking
 pub mod Electing

@@ -2,7 +2,7 @@
 
 ghost use Rattle.std.specs.Prelude.{◌≡◌, ◌<◌, ◌≤◌, ◌^◌, ◌+◌, ◌↔◌, ◌⊎◌, ℕ, true, false, Some, Ok, List, [], ◌∷◌, ◌++◌, map, length, None};
 ghost use Rattle.std.specs.List.{AllByRecursion};
-ghost use Rattle.tw_machine.specs.Types.{Team, Step, Decision, Head, Why, Body, Pass, Order, Atom, ProposeFault, RowAnswer, Kept, Want, Reason};
+ghost use Rattle.tw_machine.specs.Types.{Team, Step, Entry, Decision, Head, Why, Body, Pass, Order, Atom, ProposeFault, RowAnswer, Kept, Want, Reason};
 ghost use Rattle.tw_types.specs.Team.{IsSound};
 ghost use Rattle.tw_machine.specs.Grammar.{IsTeamLine, IsStepLine};
 ghost use Rattle.tw_types.specs.Row.{Row};
@@ -25,6 +25,9 @@ ghost use Rattle.tw_types.specs.Process.{Process};
 ghost use Rattle.tw_machine.specs.Standing.{member_of, last_decision};
 ghost use Rattle.tw_machine.specs.Control.{rate_of, timely_reading};
 ghost use Rattle.tw_machine.specs.Untimely.{is_used_in_time, DropsUntimely};
+ghost use Rattle.tw_machine.specs.LateOnes.{LateForACause};
+ghost use Rattle.tw_types.specs.Appending.{EachIsNext, appended_list};
+ghost use Rattle.tw_types.specs.Ranges.{Ascends};
 ghost use Rattle.tw_machine.specs.Taking.{decision_tests};
 ghost use Rattle.tw_machine.specs.Electing.{drop_ballot, answer_tests, holds_election, begin_election};
 ghost use Rattle.tw_machine.specs.Deciding.{has_turn, take_turn};
@@ -91,6 +94,16 @@ pub fn timely_datagrams_are_done()
 pub fn untimely_datagrams_are_dropped()
     ensures exact { (team : Team) (now : Moment) (head : Head) (body : Body) (r : Run) → is_used_in_time body ≡ true →
         DropsUntimely (rate_of team now head) now.reading r (kind_rule team now head body r) }
+{}
+
+/// A timed update that a decision adds as late wasn't above the mark as adding began, or stands behind one of its own process that was
+/// added with it: so none is late because that of another process with a greater stamp went before it. That is so of whatever each is
+/// next behind those before it (`each`), and so of the list that a maker adds (`added`).
+pub fn late_entries_have_their_cause()
+    ensures each { (team : Team) (t : ℕ) (d : Decision) (pending : List Kept) (entries : List Entry) →
+        EachIsNext team t d pending [] entries → LateForACause d.mark [] entries }
+    ensures added { (team : Team) (t passed : ℕ) (d : Decision) (pending : List Kept) → Ascends d.seats.items →
+        LateForACause d.mark [] (appended_list team t passed d pending) }
 {}
 
 /// A send is refused exactly where its cause is there, which is told first, and then leaves all as it was but for what the duties

@@ -5,7 +5,7 @@
 mod laws;
 
 pub use laws::{
-    duties_exclude_each_other, lines_spell_once, rows_print_once, sends_have_their_causes,
-    tables_follow_passes, timely_datagrams_are_done, untimely_datagrams_are_dropped,
-    updates_are_tested_in_order,
+    duties_exclude_each_other, late_entries_have_their_cause, lines_spell_once, rows_print_once,
+    sends_have_their_causes, tables_follow_passes, timely_datagrams_are_done,
+    untimely_datagrams_are_dropped, updates_are_tested_in_order,
 };

@@ -49,6 +49,11 @@ impl Bound {
         Ok(Bound { socket, poll })
     }
 
+    /// Whether the system took the whole datagram.
+    fn has_sent(&self, to: Addr, bytes: &[u8]) -> bool {
+        matches!(self.socket.send_to(bytes, socket_addr(to)), Ok(count) if count == bytes.len())
+    }
+
     /// What is there. A datagram that doesn't fit is cut.
     fn take(&self, buf: &mut [u8; 4096]) -> io::Result<Option<Came>>
         ensures { IfOk result (λ answer. IfSome answer (λ came. came.len ≤ 4096)) }
@@ -186,11 +191,10 @@ impl<N: Net> Link for UdpLink<N> {
         ensures monotone { loss_count self.old ≤ loss_count self.new }
         ensures cause { OnErr result (IsRisen (loss_count self.old) (loss_count self.new)) }
     {
-        if let Some(bound) = &self.bound {
-            if matches!(bound.socket.send_to(bytes, socket_addr(to)), Ok(count) if count == bytes.len())
-            {
-                return Ok(());
-            }
+        if let Some(bound) = &self.bound
+            && bound.has_sent(to, bytes)
+        {
+            return Ok(());
         }
         self.losses = self.losses.saturating_add(1);
         Err(LinkFailed)
@@ -208,10 +212,10 @@ impl<N: Net> Link for UdpLink<N> {
         ensures monotone { fault_count self.old ≤ fault_count self.new }
         ensures cause { OnErr result (IsRisen (fault_count self.old) (fault_count self.new)) }
     {
-        if let Some(bound) = &mut self.bound {
-            if let Ok(answer) = bound.receive(&mut self.events, buf, wait) {
-                return Ok(answer);
-            }
+        if let Some(bound) = &mut self.bound
+            && let Ok(answer) = bound.receive(&mut self.events, buf, wait)
+        {
+            return Ok(answer);
         }
         self.faults = self.faults.saturating_add(1);
         Err(LinkFailed)

@@ -1,2 +1,2 @@
-pub mod Addr
+pub mod System
 pub mod UdpLink

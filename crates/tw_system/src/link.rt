@@ -1,7 +1,8 @@
 //! Datagrams over a UDP socket.
 
-ghost use Rattle.std.specs.Prelude.{◌≡◌, ◌≤◌, Some, IfSome, IfOk};
-ghost use Rattle.tw_system.specs.Addr.{addr_of};
+ghost use Rattle.std.specs.Prelude.{◌≡◌, ◌≤◌, ◌↔◌, None, Some, IfSome, MatchOption, IfOk, IfErr, IsErr, IsTrue};
+ghost use Rattle.std.specs.IoError.{error_kind};
+ghost use Rattle.tw_system.specs.System.{addr_of, IsVain};
 
 use mio::net::UdpSocket;
 use mio::{Events, Interest, Poll, Token};
@@ -33,6 +34,35 @@ fn addr_of(addr: SocketAddr) -> Option<Addr>
     }
 }
 
+/// Whether all of so many bytes were sent.
+fn is_whole(sent: io::Result<usize>, len: usize) -> bool
+    ensures { IsTrue result ↔ (sent ≡ Ok len) }
+{
+    matches!(sent, Ok(count) if count == len)
+}
+
+/// What was received: a datagram, or none where a wait was in vain or a signal ended it. Each other error is one.
+fn received(given: io::Result<(usize, SocketAddr)>) -> io::Result<Option<Came>>
+    ensures came { IfOk given (λ g. MatchOption (addr_of g.1) (IsErr result) (λ from. result ≡ Ok (Some (record { from = from; len = g.0 })))) }
+    ensures none { IfErr given (λ e. IsVain (error_kind e) → result ≡ Ok None) }
+    ensures error { IfErr given (λ e. ¬ IsVain (error_kind e) → IsErr result) }
+{
+    match given {
+        Ok((len, from)) => match addr_of(from) {
+            Some(from) => Ok(Some(Came { from, len })),
+            None => Err(io::Error::from(ErrorKind::InvalidData)),
+        },
+        Err(error) => {
+            let kind = error.kind();
+            if kind == ErrorKind::WouldBlock || kind == ErrorKind::Interrupted {
+                Ok(None)
+            } else {
+                Err(error)
+            }
+        }
+    }
+}
+
 /// A socket that is bound, which itself never waits, and what waits for it.
 #[derive(Drop)]
 struct Bound {
@@ -51,23 +81,14 @@ impl Bound {
 
     /// Whether the system took the whole datagram.
     fn has_sent(&self, to: Addr, bytes: &[u8]) -> bool {
-        matches!(self.socket.send_to(bytes, socket_addr(to)), Ok(count) if count == bytes.len())
+        is_whole(self.socket.send_to(bytes, socket_addr(to)), bytes.len())
     }
 
     /// What is there. A datagram that doesn't fit is cut.
     fn take(&self, buf: &mut [u8; 4096]) -> io::Result<Option<Came>>
         ensures { IfOk result (λ answer. IfSome answer (λ came. came.len ≤ 4096)) }
     {
-        match self.socket.recv_from(buf) {
-            Ok((len, from)) => match addr_of(from) {
-                Some(from) => Ok(Some(Came { from, len })),
-                None => Err(io::Error::from(ErrorKind::InvalidData)),
-            },
-            Err(error) => match error.kind() {
-                ErrorKind::WouldBlock | ErrorKind::Interrupted => Ok(None),
-                _ => Err(error),
-            },
-        }
+        received(self.socket.recv_from(buf))
     }
 
     /// What is there, after a wait of at most so many microseconds where nothing is.

@@ -1,5 +1,7 @@
--- Addresses of the system.
-use Rattle.std.specs.Prelude.{Option, Some, None}
+-- What the system's calls give.
+use Rattle.std.specs.Prelude.{◌≡◌, ◌⊎◌, Option, Some, None}
+use Rattle.std.specs.declared.io.ErrorKind.{ErrorKind}
+use Rattle.std.specs.declared.io.ErrorKind.TheVariants.{WouldBlock, Interrupted}
 use Rattle.std.specs.declared.net.socket_addr.SocketAddr.{SocketAddr}
 use Rattle.std.specs.declared.net.socket_addr.SocketAddr.TheVariants.{V4, V6}
 use Rattle.std.specs.Net.Addr.{ipv4_octets}
@@ -10,3 +12,7 @@ use Rattle.tw_io.specs.declared.addr.Addr.{Addr}
 abbrev pub addr_of : SocketAddr → Option Addr
 addr_of (V4 a) = Some (record { ip = ipv4_octets (v4_ip a); port = v4_port a })
 addr_of (V6 a) = None
+
+-- an error that only says that nothing came: a wait was in vain, or a signal ended it
+abbrev pub IsVain : ErrorKind → Type 0
+IsVain kind = (kind ≡ WouldBlock) ⊎ (kind ≡ Interrupted)

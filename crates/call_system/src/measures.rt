@@ -26,8 +26,8 @@ impl Begun {
         let micros = self.at.elapsed(rt)?.as_micros().max(1);
         let used = rt.process_cpu_time()?.saturating_sub(self.used).as_micros();
         let rate = u128::from(count) * 1_000_000 / micros;
-        let share = used.saturating_mul(100) / micros;
-        Ok(format!(in rt.alloc(); "{rate} a second, {share} % of a processor")?)
+        let share = used.saturating_mul(1000) / micros;
+        Ok(format!(in rt.alloc(); "{rate} a second, {share} thousandths of a processor")?)
     }
 }
 

@@ -1,10 +1,9 @@
 //! What waits and datagrams cost.
 
-use std::alloc::AllocError;
 use std::io;
 use std::net::UdpSocket;
 use std::time::{CpuClock, Duration, Instant};
-use tw_io::{Addr, Link, LinkFailed};
+use tw_io::{Addr, Link};
 
 /// When a measurement began, by the clock and by the processor.
 #[derive(Drop)]

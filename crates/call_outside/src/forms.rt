@@ -2,7 +2,8 @@
 //!
 //! `source`, `sink`, `clock` and `link` make the forms in memory, and `steady_source` and `steady_sink` those that never
 //! fail; `pipe` makes the system's forms over the ends of a pipe, and `broken` over a reader and a writer that fail each
-//! time. `read`, `write`, `now`, `bind`, `send` and `recv` call what was made last.
+//! time. `slow_source` gives at most so many bytes at each read, and `long_source` has a row of one byte before its bytes.
+//! `lines` makes a reader of lines. `read`, `write`, `now`, `bind`, `send`, `recv` and `line` call what was made last.
 
 ghost use Rattle.std.specs.Prelude.{◌≡◌, ◌≤◌, true, length};
 ghost use Rattle.tw_io.specs.Arrivals.{bytes_of_all};
@@ -13,7 +14,7 @@ use std::alloc::{AllocError, Global};
 use std::io;
 use std::io::{PipeReader, PipeWriter};
 use tw_io::{
-    Addr, BytesIn, BytesOut, Came, Clock, Link, LinkFailed, ListClock, ReadFailed, Sink, Source,
+    Addr, BytesIn, BytesOut, Came, Clock, Line, LineReader, Link, LinkFailed, ListClock, ReadFailed, Sink, Source,
     StandardInput, StandardOutput, SteadyIn, SteadyLink, SteadyOut, WriteFailed,
 };
 
@@ -43,9 +44,30 @@ impl io::Write for Broken {
     }
 }
 
+/// A source that gives at most so many bytes at each read, and one at least. It does not tell what is left.
+#[derive(Drop)]
+struct Slow {
+    source: BytesIn,
+    size: usize,
+}
+
+impl Source for Slow {
+    ghost use Rattle.std.specs.Prelude.{None};
+
+    ghost left = { λ _. None };
+
+    ghost faults = { λ s. ⟦<BytesIn as Source>⟧.faults s.source };
+
+    fn read(&mut self, buf: &mut [u8]) -> Result<usize, ReadFailed> {
+        let size = buf.len().min(self.size);
+        self.source.read(&mut buf[..size])
+    }
+}
+
 #[derive(Drop)]
 enum Input {
     Listed(BytesIn),
+    Slow(Slow),
     Steady(SteadyIn),
     Pipe(StandardInput<PipeReader>),
     Broken(StandardInput<Broken>),
@@ -161,6 +183,43 @@ fn source_of(alloc: Global, words: &mut Words<'_>) -> Result<Input, AllocError> 
     }
 }
 
+/// A source of a row of bytes `x` and then the next word's bytes, of the calls that fail, and of how much it gives at each.
+fn slow_source_of(
+    alloc: Global,
+    row: usize,
+    words: &mut Words<'_>,
+) -> Result<Input, AllocError> {
+    let mut text = vec![in alloc; b'x'; row]?;
+    text.extend_from_slice(&bytes(alloc, words)?)?;
+    let failing = numbers(alloc, words)?;
+    let size = words.count().max(1);
+    match BytesIn::new(alloc, &text, &failing) {
+        Ok(source) => Ok(Input::Slow(Slow { source, size })),
+        Err(_) => Err(AllocError),
+    }
+}
+
+fn new_reader(alloc: Global, limit: usize) -> Result<LineReader, AllocError> {
+    LineReader::new(alloc, limit).or(Err(AllocError))
+}
+
+/// What the next line is, with its length, and its bytes where they are few.
+fn next_line<S: Source>(
+    alloc: Global,
+    reader: &mut LineReader,
+    source: &mut S,
+) -> Result<String, AllocError> {
+    let next = reader.next(source);
+    if !matches!(next, Ok(Some(Line::Ended | Line::Last))) {
+        return shown(alloc, &next);
+    }
+    let line = reader.line();
+    if line.len() > 8 {
+        return format!(in alloc; "{next:?} {}", line.len());
+    }
+    format!(in alloc; "{next:?} {line:?}")
+}
+
 fn steady_source_of(alloc: Global, words: &mut Words<'_>) -> Result<Input, AllocError> {
     let bytes = bytes(alloc, words)?;
     match SteadyIn::new(alloc, &bytes) {
@@ -216,6 +275,7 @@ pub struct Outside {
     output: Output,
     clock: ListClock,
     link: SteadyLink,
+    reader: LineReader,
 }
 
 impl Calls for Outside {
@@ -231,6 +291,7 @@ impl Calls for Outside {
             "send",
             "recv",
             "texts",
+            "line",
             "source",
             "steady_source",
             "broken_source",
@@ -240,6 +301,9 @@ impl Calls for Outside {
             "clock",
             "link",
             "pipe",
+            "slow_source",
+            "long_source",
+            "lines",
         ];
         words.among(&["outside"]);
         match words.among(&calls) {
@@ -252,6 +316,7 @@ impl Calls for Outside {
             6 => self.send(alloc, words),
             7 => recv_from(alloc, &mut self.link, words.byte(u8::MAX)),
             8 => format!(in alloc; "{ReadFailed}, {WriteFailed}, {LinkFailed}"),
+            9 => self.line(alloc),
             form => {
                 if self.make(rt, form, words).is_err() {
                     words.are_wrong = true;
@@ -264,12 +329,17 @@ impl Calls for Outside {
 
 impl Outside {
     pub fn new(alloc: Global) -> Result<Outside, AllocError> {
-        match (new_clock(alloc, &[]), new_link(alloc, &[], &[])) {
-            (Ok(clock), Ok(link)) => Ok(Outside {
+        match (
+            new_clock(alloc, &[]),
+            new_link(alloc, &[], &[]),
+            new_reader(alloc, 0),
+        ) {
+            (Ok(clock), Ok(link), Ok(reader)) => Ok(Outside {
                 input: Input::Broken(StandardInput::new(Broken)),
                 output: Output::Broken(StandardOutput::new(Broken)),
                 clock,
                 link,
+                reader,
             }),
             _ => Err(AllocError),
         }
@@ -279,19 +349,22 @@ impl Outside {
     fn make(&mut self, rt: &HostRuntime, form: usize, words: &mut Words<'_>) -> io::Result<()> {
         let alloc = rt.alloc();
         match form {
-            9 => self.input = source_of(alloc, words)?,
-            10 => self.input = steady_source_of(alloc, words)?,
-            11 => self.input = Input::Broken(StandardInput::new(Broken)),
-            12 => self.output = sink_of(alloc, words)?,
-            13 => self.output = Output::Steady(SteadyOut::new()),
-            14 => self.output = Output::Broken(StandardOutput::new(Broken)),
-            15 => self.clock = new_clock(alloc, &numbers(alloc, words)?)?,
-            16 => self.link = link_of(alloc, words)?,
-            17 => {
+            10 => self.input = source_of(alloc, words)?,
+            11 => self.input = steady_source_of(alloc, words)?,
+            12 => self.input = Input::Broken(StandardInput::new(Broken)),
+            13 => self.output = sink_of(alloc, words)?,
+            14 => self.output = Output::Steady(SteadyOut::new()),
+            15 => self.output = Output::Broken(StandardOutput::new(Broken)),
+            16 => self.clock = new_clock(alloc, &numbers(alloc, words)?)?,
+            17 => self.link = link_of(alloc, words)?,
+            18 => {
                 let (reader, writer) = io::pipe(rt)?;
                 self.input = Input::Pipe(StandardInput::new(reader));
                 self.output = Output::Pipe(StandardOutput::new(writer));
             }
+            19 => self.input = slow_source_of(alloc, 0, words)?,
+            20 => self.input = slow_source_of(alloc, words.count(), words)?,
+            21 => self.reader = new_reader(alloc, words.count())?,
             _ => {}
         }
         Ok(())
@@ -301,9 +374,20 @@ impl Outside {
         let size = words.byte(8).into();
         match &mut self.input {
             Input::Listed(source) => read_from(alloc, source, size),
+            Input::Slow(source) => read_from(alloc, source, size),
             Input::Steady(source) => read_from(alloc, source, size),
             Input::Pipe(source) => read_from(alloc, source, size),
             Input::Broken(source) => read_from(alloc, source, size),
+        }
+    }
+
+    fn line(&mut self, alloc: Global) -> Result<String, AllocError> {
+        match &mut self.input {
+            Input::Listed(source) => next_line(alloc, &mut self.reader, source),
+            Input::Slow(source) => next_line(alloc, &mut self.reader, source),
+            Input::Steady(source) => next_line(alloc, &mut self.reader, source),
+            Input::Pipe(source) => next_line(alloc, &mut self.reader, source),
+            Input::Broken(source) => next_line(alloc, &mut self.reader, source),
         }
     }
 
@@ -329,6 +413,7 @@ impl Outside {
     fn copied(&mut self) -> Copied {
         match &mut self.input {
             Input::Listed(source) => copy_to(source, &mut self.output),
+            Input::Slow(source) => copy_to(source, &mut self.output),
             Input::Steady(source) => copy_to(source, &mut self.output),
             Input::Pipe(source) => copy_to(source, &mut self.output),
             Input::Broken(source) => copy_to(source, &mut self.output),

@@ -5,10 +5,11 @@ use Rattle.std.proofs.lemmas.List.{append-nil}
 use Rattle.std.proofs.lemmas.List.Concat.{flat_map-append}
 use Rattle.replayer.specs.declared.input.Extent.{Extent}
 use Rattle.tw_machine.specs.Grammar.{line_limit}
-use Rattle.replayer.specs.Replay.{lines_of, step_limit}
-use Rattle.replayer.specs.Cuts.{IsOneLine, HasLong, IsSettled}
+use Rattle.replayer.specs.Replay.{step_limit}
+use Rattle.tw_io.specs.Lines.{lines_of, IsOneLine}
+use Rattle.replayer.specs.Cuts.{HasLong, IsSettled}
 use Rattle.replayer.specs.Extent.{ended, IsShortLine, IsExtent}
-use Rattle.replayer.proofs.Cuts.{lines_of-ended, lines_of-some, lines_of-longer}
+use Rattle.tw_io.proofs.Lines.{lines_of-ended, lines_of-some, lines_of-longer}
 use Rattle.tw_machine.proofs.Tables.{all_push}
 
 pub lines_of-whole : (whole : List (List ℕ)) (rest : List ℕ) → AllByRecursion IsShortLine whole → lines_of (flat_map ended whole ++ rest) ≡ whole ++ lines_of rest

@@ -15,7 +15,8 @@ use Rattle.tw_machine.specs.Grammar.{IsTeamLine, IsStepLine}
 use Rattle.tw_machine.specs.Admissible.{cause_of, each_own, is_running, keeps_drift}
 use Rattle.tw_machine.specs.Dispatches.{Dispatch}
 use Rattle.tw_machine.specs.World.{world, Admissible}
-use Rattle.replayer.specs.Replay.{lines_of, step_limit, Spells, Verdict, Whole, Faulty, BadLine, Endless, IsVerdict, status_of}
+use Rattle.replayer.specs.Replay.{step_limit, Spells, Verdict, Whole, Faulty, BadLine, Endless, IsVerdict, status_of}
+use Rattle.tw_io.specs.Lines.{lines_of}
 use Rattle.replayer.specs.Statuses.{IsGood, HasFaultyTeam, HasBadLine, HasTooMany, IsBadSchedule}
 use Rattle.replayer.specs.Answers.{GaveUp}
 use Rattle.replayer.proofs.Verdicts.{verdict_once}

@@ -12,8 +12,9 @@ use Rattle.tw_machine.specs.World.{world}
 use Rattle.tw_machine.specs.Rows.{rows_of, row_of}
 use Rattle.tw_types.specs.Row.{Row}
 use Rattle.tw_machine.specs.RowText.{text_of, row_text}
-use Rattle.replayer.specs.Replay.{lines_of, step_limit, Spells, Begins, IsBadLine, Whole, NoTeam, BadLine, Endless, IsVerdict}
-use Rattle.replayer.specs.Cuts.{IsFirstLine, MayGoOn, Tells}
+use Rattle.replayer.specs.Replay.{step_limit, Spells, Begins, IsBadLine, Whole, NoTeam, BadLine, Endless, IsVerdict}
+use Rattle.tw_io.specs.Lines.{lines_of, IsFirstLine}
+use Rattle.replayer.specs.Cuts.{MayGoOn, Tells}
 use Rattle.world.specs.StandsFor.{StandsFor}
 use Rattle.world.specs.Tables.{entries_of}
 use Rattle.replayer.specs.NextLine.{TakesLine, RefusesLine, refusal_of}

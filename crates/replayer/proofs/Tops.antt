@@ -6,7 +6,8 @@ use Rattle.tw_machine.specs.Types.{Team, TeamFault, Step}
 use Rattle.schedule_text.specs.declared.status.Status.{Status}
 use Rattle.schedule_text.specs.declared.status.Status.TheVariants as status
 use Rattle.schedule_text.specs.Numbers.{number_of}
-use Rattle.replayer.specs.Replay.{lines_of, Begins, Verdict, Whole, NoTeam, Faulty, BadLine, Endless, IsVerdict, status_of, text_before}
+use Rattle.replayer.specs.Replay.{Begins, Verdict, Whole, NoTeam, Faulty, BadLine, Endless, IsVerdict, status_of, text_before}
+use Rattle.tw_io.specs.Lines.{lines_of}
 use Rattle.replayer.specs.Answers.{GaveUp, TellsOfText, RowsAreWell, IsAnswered, IsReplayed}
 use Rattle.tw_machine.specs.Rows.{rows_of}
 use Rattle.tw_machine.specs.SafeRows.{SafeRows}

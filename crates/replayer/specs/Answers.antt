@@ -3,7 +3,8 @@ use Rattle.std.specs.Prelude.{ℕ, ◌≡◌, List, [], ◌++◌, take, Option, 
 use Rattle.schedule_text.specs.declared.status.Status.{Status}
 use Rattle.schedule_text.specs.declared.status.Status.TheVariants as status
 use Rattle.tw_machine.specs.Types.{Team, Step}
-use Rattle.replayer.specs.Replay.{lines_of, Begins, Verdict, Whole, NoTeam, Faulty, BadLine, Endless, IsVerdict}
+use Rattle.replayer.specs.Replay.{Begins, Verdict, Whole, NoTeam, Faulty, BadLine, Endless, IsVerdict}
+use Rattle.tw_io.specs.Lines.{lines_of}
 use Rattle.tw_machine.specs.Rows.{rows_of}
 use Rattle.tw_machine.specs.RowText.{text_of}
 use Rattle.tw_machine.specs.SafeRows.{SafeRows}

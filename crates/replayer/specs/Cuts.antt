@@ -1,18 +1,9 @@
 -- Lines at the front of a text, and when what was read of a text settles what it is, however it goes on.
 use Rattle.std.specs.Prelude.{ℕ, ◌+◌, ◌<◌, ◌≡◌, ◌≢◌, ◌⊎◌, List, [], ◌∷◌, ◌++◌, length, Option, Some}
-use Rattle.std.specs.List.{AllByRecursion}
 use Rattle.schedule_text.specs.declared.status.Status.{Status}
 use Rattle.tw_machine.specs.Grammar.{line_limit}
-use Rattle.replayer.specs.Replay.{lines_of, step_limit, Verdict, IsVerdict, status_of, text_before}
-
--- no byte of it is a line feed
-abbrev pub IsOneLine : List ℕ → Type 0
-IsOneLine line = AllByRecursion (λ b. b ≢ 10) line
-
--- the first line of a text, which its end or a line feed ends, and what follows
-pub data IsFirstLine (bytes line rest : List ℕ) : Type 0 where
-  Ended : IsOneLine line → bytes ≡ line ++ 10 ∷ rest → IsFirstLine bytes line rest
-  Last : IsOneLine line → bytes ≡ line → rest ≡ [] → 0 < length line → IsFirstLine bytes line rest
+use Rattle.tw_io.specs.Lines.{lines_of}
+use Rattle.replayer.specs.Replay.{step_limit, Verdict, IsVerdict, status_of, text_before}
 
 -- some line is longer than a line may be
 abbrev pub HasLong : List (List ℕ) → Type 0

@@ -3,7 +3,8 @@ use Rattle.std.specs.Prelude.{ℕ, ◌≤◌, ◌≡◌, List, [], ◌∷◌, �
 use Rattle.std.specs.List.{flat_map, AllByRecursion}
 use Rattle.replayer.specs.declared.input.Extent.{Extent}
 use Rattle.tw_machine.specs.Grammar.{line_limit}
-use Rattle.replayer.specs.Cuts.{IsOneLine, IsSettled}
+use Rattle.replayer.specs.Cuts.{IsSettled}
+use Rattle.tw_io.specs.Lines.{IsOneLine}
 
 -- a line with its line feed
 abbrev pub ended : List ℕ → List ℕ

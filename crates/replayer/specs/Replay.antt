@@ -1,6 +1,5 @@
 -- What a text is as a schedule: whole and good, or where and why it stops being so.
-use Rattle.std.specs.Prelude.{ℕ, ◌+◌, ◌<◌, ◌≤◌, ◌≡◌, ◌⊎◌, ◌==◌, if◌then◌else◌, List, [], ◌∷◌, length, Some, None}
-use Rattle.std.specs.List.{onto_first}
+use Rattle.std.specs.Prelude.{ℕ, ◌+◌, ◌<◌, ◌≤◌, ◌≡◌, ◌⊎◌, List, [], ◌∷◌, length, Some, None}
 use Rattle.tw_machine.specs.Types.{Team, TeamFault, Cause, Step}
 use Rattle.tw_types.specs.Team.{fault_of}
 use Rattle.tw_types.specs.declared.step.Cause.TheVariants.{Grammar}
@@ -12,11 +11,6 @@ use Rattle.tw_machine.specs.World.{world, Admissible}
 use Rattle.tw_machine.specs.Rows.{rows_of}
 use Rattle.tw_machine.specs.RowText.{text_of}
 use Rattle.world.specs.Tables.{entries_of}
-
--- the lines of a text: each ends by a line feed, which the last may lack
-abbrev pub lines_of : List ℕ → List (List ℕ)
-lines_of [] = []
-lines_of (b ∷ bs) = if b == 10 then [] ∷ lines_of bs else onto_first b (lines_of bs)
 
 -- the most steps that a schedule may have
 abbrev pub step_limit : ℕ

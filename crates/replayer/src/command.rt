@@ -3,7 +3,7 @@
 ghost use Rattle.std.specs.Prelude.{◌≡◌, ◌↔◌, ℕ, ◌≤◌, List, Some, ◌⊎◌};
 ghost use Rattle.tw_io.specs.Faults.{IsRisen};
 ghost use Rattle.tw_types.specs.declared.team.TeamFault.{TeamFault as TeamFaultSeen};
-ghost use Rattle.replayer.specs.Replay.{lines_of};
+ghost use Rattle.tw_io.specs.Lines.{lines_of};
 ghost use Rattle.replayer.specs.Statuses.{IsGood, HasFaultyTeam, HasBadLine, IsBadSchedule, HasTooMany};
 ghost use Rattle.replayer.specs.Answers.{GaveUp, TellsOfText, IsAnswered, IsCutOff, IsReplayed};
 

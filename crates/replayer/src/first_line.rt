@@ -1,7 +1,7 @@
 //! The first line of a text, and the rest. It sees bytes alone.
 
 ghost use Rattle.std.specs.Prelude.{◌≡◌, [], IfSome, IfNone, position, ◌==◌, ◌<◌, length};
-ghost use Rattle.replayer.specs.Cuts.{IsFirstLine};
+ghost use Rattle.tw_io.specs.Lines.{IsFirstLine};
 
 /// The first line of a text, without its line feed, and what follows it. None exactly where nothing is left.
 pub fn split_line(bytes: &[u8]) -> Option<(&[u8], &[u8])>

@@ -7,7 +7,7 @@ ghost use Rattle.tw_machine.specs.Types.{Team as TeamSeen, Step as StepSeen};
 ghost use Rattle.tw_machine.specs.Grammar.{IsTeamLine};
 ghost use Rattle.tw_machine.specs.RowText.{row_text};
 ghost use Rattle.replayer.specs.Held.{written};
-ghost use Rattle.replayer.specs.Replay.{lines_of};
+ghost use Rattle.tw_io.specs.Lines.{lines_of};
 ghost use Rattle.replayer.specs.Cuts.{MayGoOn, Tells};
 ghost use Rattle.replayer.specs.Answers.{TellsOfText};
 ghost use Rattle.world.specs.Causes.{cause_told};

@@ -1,1 +1,3 @@
 mod Buffer
+pub mod Lines
+mod Readers

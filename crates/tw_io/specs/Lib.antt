@@ -7,6 +7,8 @@ pub mod Failing
 pub mod FailingPlan
 pub mod Faults
 pub mod Forms
+pub mod LineReader
+pub mod Lines
 pub mod Link
 pub mod Standard
 pub mod Unread

@@ -1,4 +1,4 @@
-use Rattle.replayer.specs.Replay.{lines_of}
+use Rattle.tw_io.specs.Lines.{lines_of}
 use Rattle.replayer.proofs.Tops.{settled, replayed, nothing_taken, completed}
 use Rattle.replayer.proofs.Verdicts.{ok_exactly, bad_team_exactly, bad_schedule_exactly, too_long_exactly}
 use Rattle.replayer.proofs.command.replay.Goals as goal

@@ -2,7 +2,7 @@ use Rattle.std.proofs.Common.{sym, refl, inl, inr}
 use Rattle.std.proofs.lemmas.Option.{same_Some}
 use Rattle.replayer.specs.Held.{written}
 use Rattle.replayer.proofs.Tops.{rows_well, apart, told}
-use Rattle.replayer.specs.Replay.{lines_of}
+use Rattle.tw_io.specs.Lines.{lines_of}
 use Rattle.replayer.proofs.command.replayed.Goals as goal
 
 pub returns-in-Err-ReadFault-clause-answered : goal.returns-in-Err-ReadFault-clause-answered

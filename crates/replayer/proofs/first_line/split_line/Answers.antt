@@ -1,5 +1,6 @@
 use Rattle.std.proofs.Common.{◌+◌, sym}
-use Rattle.replayer.proofs.Cuts.{first_line_ended, first_line_last, nonempty, rest_is_whole}
+use Rattle.replayer.proofs.Cuts.{rest_is_whole}
+use Rattle.tw_io.proofs.Lines.{first_line_ended, first_line_last, nonempty}
 use Rattle.replayer.proofs.first_line.split_line.Goals as goal
 
 pub returns-in-Some-clause-some : goal.returns-in-Some-clause-some

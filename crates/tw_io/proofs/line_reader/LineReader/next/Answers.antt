@@ -1,0 +1,12 @@
+use Rattle.std.proofs.Common.{arith, sym, ap, ◌∙◌}
+use Rattle.tw_io.specs.Lines.{lines_of}
+use Rattle.tw_io.specs.LineReader.{held, line_given}
+use Rattle.tw_io.proofs.Readers.{too_long, length_of_held}
+use Rattle.tw_io.proofs.line_reader.LineReader.next.Goals as goal
+
+pub returns-then-self-clause-next : goal.returns-then-self-clause-next
+returns-then-self-clause-next g c = λ bytes left.
+    let reader = c.loop-end.self in
+    let text = c.loop-end.invariant.text bytes left in
+    let long = too_long c.args.self.now.limit (held reader) (line_given reader) (sym c.in_default.ensures.exact) (omega (arith, length_of_held reader, c.if-self.true, c.loop-end.invariant.limit)) text.0 in
+    (text.0, text.1, (text.2, long.1, long.2, ap lines_of text.2 ∙ long.3, long.4))

@@ -14,8 +14,9 @@ use std::alloc::{AllocError, Global};
 use std::io;
 use std::io::{PipeReader, PipeWriter};
 use tw_io::{
-    Addr, BytesIn, BytesOut, Came, Clock, Line, LineReader, Link, LinkFailed, ListClock, ReadFailed, Sink, Source,
-    StandardInput, StandardOutput, SteadyIn, SteadyLink, SteadyOut, WriteFailed,
+    Addr, BytesIn, BytesOut, Came, Clock, Line, LineReader, Link, LinkFailed, ListClock,
+    ReadFailed, Sink, Source, StandardInput, StandardOutput, SteadyIn, SteadyLink, SteadyOut,
+    WriteFailed,
 };
 
 /// Where a link is bound, and where all comes from and goes to.
@@ -184,11 +185,7 @@ fn source_of(alloc: Global, words: &mut Words<'_>) -> Result<Input, AllocError> 
 }
 
 /// A source of a row of bytes `x` and then the next word's bytes, of the calls that fail, and of how much it gives at each.
-fn slow_source_of(
-    alloc: Global,
-    row: usize,
-    words: &mut Words<'_>,
-) -> Result<Input, AllocError> {
+fn slow_source_of(alloc: Global, row: usize, words: &mut Words<'_>) -> Result<Input, AllocError> {
     let mut text = vec![in alloc; b'x'; row]?;
     text.extend_from_slice(&bytes(alloc, words)?)?;
     let failing = numbers(alloc, words)?;

@@ -3,7 +3,7 @@ use Rattle.std.proofs.Common.{take, drop, Some, None, ◌≡◌, refl, sym, ap, 
 use Rattle.std.specs.List.{position}
 use Rattle.std.proofs.lemmas.List.{drop-drop, drop-take, length-take, length-drop, take-append-drop, take-append-le, take_all}
 use Rattle.std.proofs.lemmas.Grind.{common_steps}
-use Rattle.tw_io.specs.Lines.{lines_of, IsOneLine}
+use Rattle.tw_io.specs.Lines.{lines_of}
 use Rattle.tw_io.specs.declared.line_reader.Line.TheVariants as line
 use Rattle.tw_io.specs.declared.line_reader.LineReader.{LineReader}
 use Rattle.tw_io.specs.LineReader.{held, IsNextLine}

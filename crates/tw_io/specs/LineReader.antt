@@ -1,5 +1,5 @@
 -- What a reader of lines holds, and what it answers of a text.
-use Rattle.std.specs.Prelude.{ℕ, ◌-◌, ◌<◌, ◌≤◌, ◌≡◌, List, [], ◌∷◌, ◌++◌, length, take, drop, Option, Some, None}
+use Rattle.std.specs.Prelude.{ℕ, ◌-◌, ◌<◌, ◌≡◌, List, [], ◌∷◌, ◌++◌, length, take, drop, Option, Some, None}
 use Rattle.tw_io.specs.declared.line_reader.Line.{Line}
 use Rattle.tw_io.specs.declared.line_reader.Line.TheVariants as line
 use Rattle.tw_io.specs.declared.line_reader.LineReader.{LineReader}

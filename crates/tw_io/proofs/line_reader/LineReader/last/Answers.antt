@@ -1,4 +1,4 @@
-use Rattle.std.proofs.Common.{arith, rules}
+use Rattle.std.proofs.Common.{arith}
 use Rattle.tw_io.specs.LineReader.{held}
 use Rattle.tw_io.proofs.Readers.{last_line, length_of_held}
 use Rattle.tw_io.proofs.line_reader.LineReader.last.Goals as goal

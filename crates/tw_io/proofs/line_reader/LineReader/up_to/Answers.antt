@@ -1,4 +1,4 @@
-use Rattle.std.proofs.Common.{arith, sym, ◌+◌, ◌≤◌}
+use Rattle.std.proofs.Common.{arith, ◌+◌}
 use Rattle.tw_io.specs.LineReader.{held, line_given}
 use Rattle.tw_io.proofs.Readers.{ended_line, ended_late, front_of_part, rest_of_part, length_of_held}
 use Rattle.tw_io.proofs.line_reader.LineReader.up_to.Goals as goal

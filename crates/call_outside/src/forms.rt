@@ -3,7 +3,8 @@
 //! `source`, `sink`, `clock` and `link` make the forms in memory, and `steady_source` and `steady_sink` those that never
 //! fail; `pipe` makes the system's forms over the ends of a pipe, and `broken` over a reader and a writer that fail each
 //! time. `slow_source` gives at most so many bytes at each read, and `long_source` has a row of one byte before its bytes.
-//! `lines` makes a reader of lines. `read`, `write`, `now`, `bind`, `send`, `recv` and `line` call what was made last.
+//! `lines` makes a reader of lines, and `list_link` a link that keeps what is sent. `read`, `write`, `now`, `bind`, `send`, `send_row`,
+//! `recv`, `sent` and `line` call what was made last.
 
 ghost use Rattle.std.specs.Prelude.{◌≡◌, ◌≤◌, true, length};
 ghost use Rattle.tw_io.specs.Arrivals.{bytes_of_all};
@@ -14,7 +15,7 @@ use std::alloc::{AllocError, Global};
 use std::io;
 use std::io::{PipeReader, PipeWriter};
 use tw_io::{
-    Addr, BytesIn, BytesOut, Came, Clock, Line, LineReader, Link, LinkFailed, ListClock,
+    Addr, BytesIn, BytesOut, Came, Clock, Line, LineReader, Link, LinkFailed, ListClock, ListLink,
     ReadFailed, Sink, Source, StandardInput, StandardOutput, SteadyIn, SteadyLink, SteadyOut,
     WriteFailed,
 };
@@ -80,6 +81,12 @@ enum Output {
     Steady(SteadyOut),
     Pipe(StandardOutput<PipeWriter>),
     Broken(StandardOutput<Broken>),
+}
+
+#[derive(Drop)]
+enum Way {
+    Steady(SteadyLink),
+    Listed(ListLink),
 }
 
 /// What a read of at most so many bytes gives, at most eight.
@@ -210,11 +217,8 @@ fn next_line<S: Source>(
     if !matches!(next, Ok(Some(Line::Ended | Line::Last))) {
         return shown(alloc, &next);
     }
-    let line = reader.line();
-    if line.len() > 8 {
-        return format!(in alloc; "{next:?} {}", line.len());
-    }
-    format!(in alloc; "{next:?} {line:?}")
+    let line = few(alloc, reader.line())?;
+    format!(in alloc; "{next:?} {line}")
 }
 
 fn steady_source_of(alloc: Global, words: &mut Words<'_>) -> Result<Input, AllocError> {
@@ -245,15 +249,41 @@ fn new_link(alloc: Global, items: &[Option<Came>], bytes: &[u8]) -> Result<Stead
 }
 
 /// A link of what arrives, of how many bytes that is, and of the byte that all of it is made of.
-fn link_of(alloc: Global, words: &mut Words<'_>) -> Result<SteadyLink, AllocError> {
+fn link_of(alloc: Global, words: &mut Words<'_>) -> Result<Way, AllocError> {
     let items = arrivals(alloc, words)?;
     let count = words.count();
     let bytes = vec![in alloc; words.byte(u8::MAX); count]?;
     if have_bytes(&items, bytes.len()) {
-        return new_link(alloc, &items, &bytes);
+        return Ok(Way::Steady(new_link(alloc, &items, &bytes)?));
     }
     words.are_wrong = true;
-    new_link(alloc, &[], &[])
+    Ok(Way::Steady(new_link(alloc, &[], &[])?))
+}
+
+/// A link of the same, of how many sends it has places for, of how many bytes together, and of the calls that fail.
+fn list_link_of(alloc: Global, words: &mut Words<'_>) -> Result<Way, AllocError> {
+    let items = arrivals(alloc, words)?;
+    let count = words.count();
+    let bytes = vec![in alloc; words.byte(u8::MAX); count]?;
+    let sends = words.count();
+    let room = words.count();
+    let failing = numbers(alloc, words)?;
+    if !have_bytes(&items, bytes.len()) {
+        words.are_wrong = true;
+        return Ok(Way::Steady(new_link(alloc, &[], &[])?));
+    }
+    match ListLink::new(alloc, &items, &bytes, sends, room, &failing) {
+        Ok(link) => Ok(Way::Listed(link)),
+        Err(_) => Err(AllocError),
+    }
+}
+
+/// Bytes, or their number where they are many.
+fn few(alloc: Global, bytes: &[u8]) -> Result<String, AllocError> {
+    if bytes.len() > 8 {
+        return shown(alloc, &bytes.len());
+    }
+    shown(alloc, &bytes)
 }
 
 fn copy_to<S: Source>(source: &mut S, output: &mut Output) -> Copied {
@@ -271,7 +301,7 @@ pub struct Outside {
     input: Input,
     output: Output,
     clock: ListClock,
-    link: SteadyLink,
+    link: Way,
     reader: LineReader,
 }
 
@@ -289,6 +319,8 @@ impl Calls for Outside {
             "recv",
             "texts",
             "line",
+            "send_row",
+            "sent",
             "source",
             "steady_source",
             "broken_source",
@@ -301,6 +333,7 @@ impl Calls for Outside {
             "slow_source",
             "long_source",
             "lines",
+            "list_link",
         ];
         words.among(&["outside"]);
         match words.among(&calls) {
@@ -309,11 +342,13 @@ impl Calls for Outside {
             2 => shown(alloc, &self.bytes()),
             3 => shown(alloc, &self.copied()),
             4 => shown(alloc, &now_of(&mut self.clock)),
-            5 => shown(alloc, &bind_to(&mut self.link)),
+            5 => self.bind(alloc),
             6 => self.send(alloc, words),
-            7 => recv_from(alloc, &mut self.link, words.byte(u8::MAX)),
+            7 => self.recv(alloc, words.byte(u8::MAX)),
             8 => format!(in alloc; "{ReadFailed}, {WriteFailed}, {LinkFailed}"),
             9 => self.line(alloc),
+            10 => self.send_row(alloc, words),
+            11 => self.sent(alloc, words.count()),
             form => {
                 if self.make(rt, form, words).is_err() {
                     words.are_wrong = true;
@@ -335,7 +370,7 @@ impl Outside {
                 input: Input::Broken(StandardInput::new(Broken)),
                 output: Output::Broken(StandardOutput::new(Broken)),
                 clock,
-                link,
+                link: Way::Steady(link),
                 reader,
             }),
             _ => Err(AllocError),
@@ -346,22 +381,23 @@ impl Outside {
     fn make(&mut self, rt: &HostRuntime, form: usize, words: &mut Words<'_>) -> io::Result<()> {
         let alloc = rt.alloc();
         match form {
-            10 => self.input = source_of(alloc, words)?,
-            11 => self.input = steady_source_of(alloc, words)?,
-            12 => self.input = Input::Broken(StandardInput::new(Broken)),
-            13 => self.output = sink_of(alloc, words)?,
-            14 => self.output = Output::Steady(SteadyOut::new()),
-            15 => self.output = Output::Broken(StandardOutput::new(Broken)),
-            16 => self.clock = new_clock(alloc, &numbers(alloc, words)?)?,
-            17 => self.link = link_of(alloc, words)?,
-            18 => {
+            12 => self.input = source_of(alloc, words)?,
+            13 => self.input = steady_source_of(alloc, words)?,
+            14 => self.input = Input::Broken(StandardInput::new(Broken)),
+            15 => self.output = sink_of(alloc, words)?,
+            16 => self.output = Output::Steady(SteadyOut::new()),
+            17 => self.output = Output::Broken(StandardOutput::new(Broken)),
+            18 => self.clock = new_clock(alloc, &numbers(alloc, words)?)?,
+            19 => self.link = link_of(alloc, words)?,
+            20 => {
                 let (reader, writer) = io::pipe(rt)?;
                 self.input = Input::Pipe(StandardInput::new(reader));
                 self.output = Output::Pipe(StandardOutput::new(writer));
             }
-            19 => self.input = slow_source_of(alloc, 0, words)?,
-            20 => self.input = slow_source_of(alloc, words.count(), words)?,
-            21 => self.reader = new_reader(alloc, words.count())?,
+            21 => self.input = slow_source_of(alloc, 0, words)?,
+            22 => self.input = slow_source_of(alloc, words.count(), words)?,
+            23 => self.reader = new_reader(alloc, words.count())?,
+            24 => self.link = list_link_of(alloc, words)?,
             _ => {}
         }
         Ok(())
@@ -417,8 +453,52 @@ impl Outside {
         }
     }
 
+    fn bind(&mut self, alloc: Global) -> Result<String, AllocError> {
+        let bound = match &mut self.link {
+            Way::Steady(link) => bind_to(link),
+            Way::Listed(link) => bind_to(link),
+        };
+        shown(alloc, &bound)
+    }
+
     fn send(&mut self, alloc: Global, words: &mut Words<'_>) -> Result<String, AllocError> {
         let bytes = bytes(alloc, words)?;
-        shown(alloc, &send_on(&mut self.link, &bytes))
+        self.send_bytes(alloc, &bytes)
+    }
+
+    /// Sends so many times the same byte.
+    fn send_row(&mut self, alloc: Global, words: &mut Words<'_>) -> Result<String, AllocError> {
+        let count = words.count();
+        let bytes = vec![in alloc; words.byte(u8::MAX); count]?;
+        self.send_bytes(alloc, &bytes)
+    }
+
+    fn send_bytes(&mut self, alloc: Global, bytes: &[u8]) -> Result<String, AllocError> {
+        let sent = match &mut self.link {
+            Way::Steady(link) => send_on(link, bytes),
+            Way::Listed(link) => send_on(link, bytes),
+        };
+        shown(alloc, &sent)
+    }
+
+    fn recv(&mut self, alloc: Global, filled: u8) -> Result<String, AllocError> {
+        match &mut self.link {
+            Way::Steady(link) => recv_from(alloc, link, filled),
+            Way::Listed(link) => recv_from(alloc, link, filled),
+        }
+    }
+
+    /// What a link in memory has sent at this place.
+    fn sent(&self, alloc: Global, place: usize) -> Result<String, AllocError> {
+        let Way::Listed(link) = &self.link else {
+            return Ok(String::new(alloc));
+        };
+        match link.sent(place) {
+            Some((number, to, bytes)) => {
+                let bytes = few(alloc, bytes)?;
+                format!(in alloc; "{number} {to:?} {bytes}")
+            }
+            None => String::from_str(alloc, "none"),
+        }
     }
 }

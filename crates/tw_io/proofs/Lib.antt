@@ -1,3 +1,4 @@
 mod Buffer
 pub mod Lines
+mod Outboxes
 mod Readers

@@ -52,7 +52,7 @@ pub last_line : (limit : ℕ) (bytes : List ℕ) → position (λ b. nat_eq b 10
 last_line limit bytes e some = (refl, refl, lines_of-last bytes (no_line_feed bytes e) some)
 
 -- the items of a vector that was written over its whole length
-all_written : (before after : List ℕ) (len : ℕ) → len ≡ length after → take len (after ++ drop (length after) before) ≡ after
+pub all_written : (before after : List ℕ) (len : ℕ) → len ≡ length after → take len (after ++ drop (length after) before) ≡ after
 all_written before after len e = rw e (take-append-le (length after) after (drop (length after) before) (omega arith) ∙ take_all (length after) after (omega arith))
 
 -- what is held after a piece was put behind it

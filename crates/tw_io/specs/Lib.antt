@@ -10,5 +10,8 @@ pub mod Forms
 pub mod LineReader
 pub mod Lines
 pub mod Link
+pub mod ListLink
+pub mod Outbox
+pub mod OutboxKept
 pub mod Standard
 pub mod Unread

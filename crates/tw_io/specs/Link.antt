@@ -1,9 +1,10 @@
 -- What a link for datagrams tells of itself: where it was bound, what was sent on it, and what is to arrive.
-use Rattle.std.specs.Prelude.{ℕ, ◌+◌, ◌≡◌, min, List, [], ◌∷◌, ◌++◌, length, take, Option, Some, None}
+use Rattle.std.specs.Prelude.{ℕ, ◌≡◌, min, List, [], ◌∷◌, ◌++◌, length, take, Option, Some, None}
 use Rattle.tw_io.specs.declared.addr.Addr.{Addr}
 use Rattle.tw_io.specs.declared.addr.Came.{Came}
+use Rattle.tw_io.specs.Faults.{one_more}
 
--- how often a link was bound, and to which address the last time
+-- How often a link was bound, and to which address the last time. Counts are those of 64 bits, which stay at their last value.
 pub record Binding : Type 0 where
   pub times : ℕ
   pub last : Option Addr
@@ -14,7 +15,7 @@ unbound = record { times = 0; last = None }
 
 -- bound once more
 abbrev pub bound_to : Addr → Binding → Binding
-bound_to own b = record { times = b.times + 1; last = Some own }
+bound_to own b = record { times = one_more b.times; last = Some own }
 
 -- a send call that didn't fail: its number among the link's send calls, from 1, with its address and bytes
 pub record Sent : Type 0 where
@@ -33,11 +34,11 @@ unsent = record { calls = 0; sent = [] }
 
 -- after one more send call, which failed
 abbrev pub one_lost : Sends → Sends
-one_lost s = record { calls = s.calls + 1; sent = s.sent }
+one_lost s = record { calls = one_more s.calls; sent = s.sent }
 
 -- after one more send call, which didn't fail
 abbrev pub one_sent : Addr → List ℕ → Sends → Sends
-one_sent to bytes s = record { calls = s.calls + 1; sent = s.sent ++ record { number = s.calls + 1; to = to; bytes = bytes } ∷ [] }
+one_sent to bytes s = record { calls = one_more s.calls; sent = s.sent ++ record { number = one_more s.calls; to = to; bytes = bytes } ∷ [] }
 
 -- a datagram that is to arrive
 pub record Arrival : Type 0 where

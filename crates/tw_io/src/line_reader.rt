@@ -1,7 +1,8 @@
 //! Lines of a source that is read in pieces of any size.
 
-ghost use Rattle.std.specs.Prelude.{◌≡◌, ◌≤◌, ◌+◌, ◌++◌, length, take, vec_len};
+ghost use Rattle.std.specs.Prelude.{◌≤◌, ◌+◌, vec_len};
 
+use crate::put::put;
 use crate::{ReadFailed, Source};
 use std::alloc::Global;
 use tw_num::WantOfMemory;
@@ -177,13 +178,4 @@ impl LineReader {
         self.keep(&piece[..count]);
         Ok(count)
     }
-}
-
-/// Puts a piece at this place of a room.
-fn put(room: &mut [u8], at: usize, piece: &[u8])
-    requires { at + length piece.now ≤ length room.old }
-    ensures front { take (at + length piece.now) room.new ≡ take at room.old ++ piece.now }
-    ensures room { length room.new ≡ length room.old }
-{
-    room[at..at + piece.len()].copy_from_slice(piece);
 }

@@ -13,5 +13,6 @@ pub mod Link
 pub mod ListLink
 pub mod Outbox
 pub mod OutboxKept
+pub mod Moments
 pub mod Standard
 pub mod Unread

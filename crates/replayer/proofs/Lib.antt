@@ -6,3 +6,4 @@ pub mod Sound
 pub mod Verdicts
 pub mod Tops
 mod Premises
+mod Commands

@@ -5,3 +5,4 @@ pub mod Extent
 pub mod Statuses
 pub mod Answers
 pub mod NextLine
+pub mod Command

@@ -1,2 +1,2 @@
 pub mod OneWord
-mod Settled
+mod Named

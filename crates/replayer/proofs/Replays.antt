@@ -1,5 +1,6 @@
 -- A text that is replayed line by line.
-use Rattle.std.proofs.Common.{subst, ◌≡◌, inl, inr, ◌≤◌, ◌<◌, refl, sym, ap, ◌∙◌, ℕ, ◌+◌, List, [], ◌∷◌, ◌++◌, length, Option, Some, None, arith}
+use Rattle.std.proofs.Common.{subst, ◌≡◌, inl, inr, ◌≤◌, ◌<◌, refl, sym, ap, ◌∙◌, ℕ, ◌+◌, List, [], ◌∷◌, ◌++◌, length, Option, Some, None, Result, Ok, Err, arith}
+use Rattle.std.specs.Prelude.{IfOk}
 use Rattle.std.proofs.lemmas.List.{append-nil}
 use Rattle.std.proofs.lemmas.List.Concat.{flat_map-append}
 use Rattle.tw_machine.specs.Types.{Team, Cause, Step}
@@ -128,3 +129,8 @@ no_line_at_all bytes more none go first others team cut is =
 -- the first line is a team's
 pub team_line_first : (bytes line rest more : List ℕ) (team : Team) → IsFirstLine bytes line rest → MayGoOn 0 bytes more → IsTeamLine line team → (lines_of (bytes ++ more) ≡ line ∷ lines_of (rest ++ more)) × MayGoOn 1 rest more
 team_line_first bytes line rest more team front go is = good_line 0 bytes line rest more front go is.fits (omega arith)
+
+-- three facts of what an answer gives, as one
+pub all_three : {A E : Type 0} {P Q R T : A → Type 0} (r : Result A E) → ((a : A) → P a → Q a → R a → T a) → IfOk r P → IfOk r Q → IfOk r R → IfOk r T
+all_three (Ok a) f p q s = f a p q s
+all_three (Err e) f p q s = tt

@@ -6,3 +6,4 @@ pub mod Statuses
 pub mod Answers
 pub mod NextLine
 pub mod Command
+pub mod TextReplay

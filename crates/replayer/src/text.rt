@@ -10,6 +10,7 @@ ghost use Rattle.replayer.specs.Held.{written};
 ghost use Rattle.tw_io.specs.Lines.{lines_of};
 ghost use Rattle.replayer.specs.Cuts.{MayGoOn, Tells};
 ghost use Rattle.replayer.specs.Answers.{TellsOfText};
+ghost use Rattle.replayer.specs.TextReplay.{IsTextReplay};
 ghost use Rattle.world.specs.Causes.{cause_told};
 ghost use Rattle.world.specs.StandsFor.{StandsFor};
 ghost use Rattle.replayer.specs.NextLine.{refusal_of, TakesLine, RefusesLine};
@@ -147,9 +148,7 @@ fn replay_steps(alloc: Global, team: Team, steps: &[u8]) -> Result<Replay, WantO
 
 /// Replays what was read of a text, if what follows it matters no more.
 pub fn replay_text(alloc: Global, text: &[u8]) -> Result<Replay, WantOfMemory>
-    ensures tells { IfOk result (λ replay. (more : List ℕ) → MayGoOn 0 text.now more → Tells (lines_of (text.now ++ more)) replay.status (written replay.rows)) }
-    ensures whole { IfOk result (λ replay. replay.status ≡ Status.Ok → (more : List ℕ) → MayGoOn 0 text.now more → more ≡ []) }
-    ensures status { IfOk result (λ replay. TellsOfText replay.status) }
+    ensures { IfOk result (λ replay. IsTextReplay text.now replay.status (written replay.rows)) }
 {
     let Some((line, steps)) = split_line(text) else {
         return Ok(no_rows(alloc, Status::BadSchedule(1, Cause::Grammar)));

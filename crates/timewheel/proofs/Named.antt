@@ -1,5 +1,5 @@
 -- Which words are those of the command, and which aren't.
-use Rattle.std.proofs.Common.{◌≡◌, refl, List, [], ◌∷◌}
+use Rattle.std.proofs.Common.{refl, [], ◌∷◌}
 use Rattle.std.specs.Prelude.{codes}
 use Rattle.timewheel.specs.Top.{NamesReplay}
 

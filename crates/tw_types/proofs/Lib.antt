@@ -9,3 +9,4 @@ mod WaitingWorked
 mod LogsWorked
 mod AppendingWorked
 mod DeliveriesWorked
+mod RingsWorked

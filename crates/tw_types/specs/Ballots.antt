@@ -24,24 +24,36 @@ abbrev pub ballot_of : ℕ → Option ℕ → List Report → Option Decision �
 ballot_of number ring reports d = record { number = number; ring = ring; reports = record { items = reports }; best = d; best_from = least_reporter d reports }
 
 -- it begins with its owner's own promise
+abbrev pub begun_in : (ring : Option ℕ) → Promise → Ballot
+begun_in ring p = ballot_of p.number ring (p.report ∷ []) p.decision
+
+-- one of a slot
 abbrev pub begun : Promise → Ballot
-begun p = ballot_of p.number None (p.report ∷ []) p.decision
+begun p = begun_in None p
 
 -- of two decisions the greater one; a missing one is below each
 abbrev pub greater : Option Decision → Option Decision → Option Decision
 greater a b = if is_older (or_none a).group (or_none a).turn (or_none b).group (or_none b).turn then b else a
 
+-- among these is a report of the process
+abbrev pub is_reported : ℕ → List Report → Bool
+is_reported who reports = list_any (λ (r : Report). r.member.who == who) reports
+
 abbrev pub has_report_of : ℕ → Ballot → Bool
-has_report_of who b = list_any (λ (r : Report). r.member.who == who) b.reports.items
+has_report_of who b = is_reported who b.reports.items
 
 -- there is a ballot of the promise's number, without a report of its process
 abbrev pub wants : Promise → Option Ballot → Bool
 wants p None = false
 wants p (Some b) = (b.number == p.number) && not (has_report_of p.report.member.who b)
 
--- the ballot with one report more, and the decision that came with it
+-- the ballot with these reports more, and the decision that came with them
+abbrev pub with_reports : List Report → Option Decision → Ballot → Ballot
+with_reports rs d b = ballot_of b.number b.ring (b.reports.items ++ rs) (greater b.best d)
+
+-- and with one more
 abbrev pub with_report : Report → Option Decision → Ballot → Ballot
-with_report r d b = ballot_of b.number b.ring (b.reports.items ++ r ∷ []) (greater b.best d)
+with_report r d b = with_reports (r ∷ []) d b
 
 -- the ballot with one promise more
 abbrev pub joined : Promise → Ballot → Ballot

@@ -24,6 +24,7 @@ pub mod Reports
 pub mod Ballots
 pub mod BallotFits
 pub mod Elections
+pub mod Rings
 pub mod Groups
 pub mod Updates
 pub mod Waiting

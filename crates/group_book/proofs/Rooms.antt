@@ -1,5 +1,5 @@
 -- A ballot has room for the report of each process that didn't report yet.
-use Rattle.std.proofs.Common.{◌≡◌, ℕ, ◌<◌, Bool, true, false, List, [], ◌∷◌, length, map, refl, eqb, arith}
+use Rattle.std.proofs.Common.{◌≡◌, ℕ, ◌<◌, ◌≤◌, Bool, true, false, List, [], ◌∷◌, length, map, refl, eqb, arith}
 use Rattle.std.proofs.lemmas.List.{length-map}
 use Rattle.std.specs.Prelude.{◌||◌, ◌==◌}
 use Rattle.std.specs.List.{list_any, AllByRecursion, IsDistinct}
@@ -47,7 +47,11 @@ all_apart : (n who : ℕ) (xs : List Report) → Distinct xs → list_any (λ (r
 unfolding IsDistinct
 all_apart n who xs apart none = (others_apart who xs (others who xs none), numbers_apart xs apart)
 
--- so there are fewer than n of them
+-- of different processes there are n at most
+pub at_most : (n : ℕ) (xs : List Report) → Distinct xs → AllByRecursion (ReportFits n) xs → length xs ≤ n
+at_most n xs apart fit = omega (arith, length-le_from_distinct_below (whos xs) n (numbers_apart xs apart) (numbers_below n xs fit), whos_length xs)
+
+-- and fewer than n where one of the n is left
 pub few_reports : (n who : ℕ) (xs : List Report) → who < n → Distinct xs → AllByRecursion (ReportFits n) xs → list_any (λ (r : Report). r.member.who == who) xs ≡ false → length xs < n
 few_reports n who xs lt apart fit none =
     let all : IsDistinct eqb (who ∷ whos xs) = all_apart n who xs apart none in

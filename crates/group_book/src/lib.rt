@@ -13,6 +13,6 @@
 mod ballots;
 mod reports;
 
-pub use ballots::{add, begin};
+pub use ballots::{add, add_round, begin};
 pub use reports::{best, consistent};
 pub use tw_types::Ballot;

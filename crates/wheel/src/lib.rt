@@ -12,5 +12,5 @@ mod ring;
 mod slots;
 
 pub use promises::{BallotFault, ElectFault, may_promise};
-pub use ring::{after, seat_after, stuck, suspect};
+pub use ring::{after, after_but, seat_after, stuck, suspect};
 pub use slots::{next_owned, owner, slot_of};

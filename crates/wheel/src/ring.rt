@@ -3,6 +3,7 @@
 ghost use Rattle.std.specs.Prelude.{◌≡◌, ◌≤◌, nat_lt, length, option_copied, find};
 ghost use Rattle.tw_types.specs.Team.{IsSound};
 ghost use Rattle.tw_types.specs.Slots.{seat_after, after, is_suspect, is_stuck};
+ghost use Rattle.tw_types.specs.Rings.{after_but};
 
 use tw_types::{Decision, Seat, Team};
 
@@ -26,6 +27,16 @@ pub fn after(d: &Decision, who: u8) -> u8
     ensures { result ≡ after d.now who }
 {
     seat_after(d, who).map_or(0, |seat| seat.member.who)
+}
+
+/// The process that has the seat after process `who` in the ring of a decision's seats, where process `skip` is left out. Where
+/// `skip` comes next it is the one after that, which may be `who` itself.
+pub fn after_but(d: &Decision, who: u8, skip: u8) -> u8
+    requires { 1 ≤ length d.now.seats.items }
+    ensures { result ≡ after_but d.now who skip }
+{
+    let next = after(d, who);
+    if next == skip { after(d, skip) } else { next }
 }
 
 /// Whether the next decision is overdue at team time `t`, in microseconds: there is a last one, and it was made more than

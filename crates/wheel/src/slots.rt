@@ -22,13 +22,13 @@ pub fn owner(n: u8, number: u64) -> u8
     (number % u64::from(n)) as u8
 }
 
-/// The least number, not below `number`, that process `who` of `n` owns. It may be `number` itself.
+/// The least number, not below `number`, that process `who` of `n` owns. It may be `number` itself. For a `who` that is none of
+/// them it is a number that another one owns.
 pub fn next_owned(n: u8, number: u64, who: u8) -> u64
     requires size { (3 ≤ n) × (n ≤ 15) }
-    requires process { who < n }
     requires number { number < 2 ^ 61 }
     ensures exact { result ≡ next_owned n number who }
-    ensures least { IsNextOwned n number who result }
+    ensures least { who < n → IsNextOwned n number who result }
 {
     let n = u64::from(n);
     number + (u64::from(who) + n - number % n) % n

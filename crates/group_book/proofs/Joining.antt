@@ -21,7 +21,7 @@ pub all-push : {X : Type 0} (P : X → Type 0) (xs : List X) (x : X) → AllByRe
 all-push P [] x h p = (p, tt)
 all-push P (y ∷ xs) x h p = (h.0, all-push P xs x h.1 p)
 
-distinct-push : (xs : List Report) (r : Report) → Distinct xs → AllByRecursion (λ (q : Report). (r.member.who ≡ q.member.who) → ⊥) xs → Distinct (xs ++ r ∷ [])
+pub distinct-push : (xs : List Report) (r : Report) → Distinct xs → AllByRecursion (λ (q : Report). (r.member.who ≡ q.member.who) → ⊥) xs → Distinct (xs ++ r ∷ [])
 distinct-push [] r d o = (tt, tt)
 distinct-push (x ∷ xs) r d o = (all-push (λ (q : Report). (x.member.who ≡ q.member.who) → ⊥) xs r d.0 (λ e. o.0 (cc)), distinct-push xs r d.1 o.1)
 

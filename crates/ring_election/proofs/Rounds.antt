@@ -7,7 +7,7 @@ use Rattle.tw_types.specs.declared.team.Team.{Team}
 use Rattle.tw_types.specs.declared.message.Report.{Report}
 use Rattle.tw_types.specs.declared.message.Decision.{Decision}
 use Rattle.tw_types.specs.Team.{IsSound}
-use Rattle.tw_types.specs.Ranges.{IsPositive, ReportFits, IsTold, IsBelow, IsNotBelow, IsOf, NoDecisionFits}
+use Rattle.tw_types.specs.Ranges.{IsPositive, ReportFits, IsTold, IsBelow, IsNotBelow, IsOf, IsGreatest, DecisionFits}
 use Rattle.tw_types.specs.Decisions.{or_none, is_older}
 use Rattle.tw_types.specs.declared.datagram.Body.{Body}
 use Rattle.tw_types.specs.declared.answer.Reason.{Reason}
@@ -15,7 +15,7 @@ use Rattle.tw_types.specs.declared.answer.Reason.TheVariants.{Quarantine, OutOfW
 use Rattle.tw_types.specs.Refusals.{first_refusal}
 use Rattle.tw_types.specs.Slots.{slot_of, owner}
 use Rattle.tw_types.specs.Promises.{is_in_window}
-use Rattle.tw_types.specs.Ballots.{is_reported}
+use Rattle.tw_types.specs.Ballots.{greater, is_reported}
 use Rattle.tw_types.specs.BallotFits.{IsPromise}
 use Rattle.tw_types.specs.Rings.{Round, RoundFits, round_of, round_body, ring_number, first_promise, first_round, after_but, has_seat_of, round_tests, round_answered, is_willing_in}
 use Rattle.group_book.proofs.Rooms.{few_reports, others}
@@ -72,28 +72,34 @@ higher g t g' t' (x ∷ xs) older h = let low = h.0 in (grind (arith, nat_tests)
 not_below : (g t : ℕ) (d : Decision) (r : Report) → is_older g t d.group d.turn ≡ false → d.group ≡ r.group → d.turn ≡ r.turn → IsNotBelow g t r
 not_below g t d r older a b = grind (arith, nat_tests)
 
-pub answered_fits : (n : ℕ) (me : Report) (d : Decision) (r : Round) → RoundFits n r → ReportFits n me → IsTold n me (Some d) → d.group < r.number
-    → is_reported me.member.who r.reports ≡ false → RoundFits n (round_answered me (Some d) r)
-answered_fits n me d r h fits told below new = go (is_older r.best.group r.best.turn d.group d.turn) refl
+-- the better of a round's best decision and this one, with a report that tells this one
+abbrev Best : ℕ → Report → Round → Decision → Type 0
+Best n me r b = DecisionFits n b × IsGreatest b.group b.turn (r.reports ++ me ∷ [])
+
+better : (n : ℕ) (me : Report) (d : Decision) (r : Round) → RoundFits n r → IsTold n me (Some d) → Best n me r (or_none (greater (Some r.best) (Some d)))
+better n me d r h told = go (is_older r.best.group r.best.turn d.group d.turn) refl
   where
-    go : (t : Bool) → is_older r.best.group r.best.turn d.group d.turn ≡ t → NoDecisionFits n r.number r.group r.turn r.skip (r.reports ++ me ∷ []) (or_none (cond t (Some d) (Some r.best)))
-    go true e = record {
-      number_fits = h.number_fits;
-      group_fits = h.group_fits;
-      turn_fits = h.turn_fits;
-      skip_fits = h.skip_fits;
-      at_least_one = let one = h.at_least_one in omega (arith, length-append r.reports (me ∷ []));
-      at_most = omega (arith, length-append r.reports (me ∷ []), few_reports n me.member.who r.reports fits.who h.distinct h.each new);
-      each = all-push (ReportFits n) r.reports me h.each fits;
-      distinct = distinct-push r.reports me h.distinct (others me.member.who r.reports new);
-      below = all-push (IsBelow r.number) r.reports me h.below (record { kind = told.0; group = told.1; below = let g = told.2 in omega arith });
-      best_fits = told.4;
-      greatest = record {
+    go : (t : Bool) → is_older r.best.group r.best.turn d.group d.turn ≡ t → Best n me r (or_none (cond t (Some d) (Some r.best)))
+    go true e = (
+      told.4,
+      record {
         reported = of_last d.group d.turn r.reports me (sym told.2) (sym told.3);
         greatest = all-push (IsNotBelow d.group d.turn) r.reports me (higher r.best.group r.best.turn d.group d.turn r.reports e h.greatest.greatest) (inr (sym told.2, let t = told.3 in omega arith));
-      };
-    }
-    go false e = record {
+      },
+    )
+    go false e = (
+      h.best_fits,
+      record {
+        reported = of_longer r.best.group r.best.turn r.reports (me ∷ []) h.greatest.reported;
+        greatest = all-push (IsNotBelow r.best.group r.best.turn) r.reports me h.greatest.greatest (not_below r.best.group r.best.turn d me e told.2 told.3);
+      },
+    )
+
+pub answered_fits : (n : ℕ) (me : Report) (d : Decision) (r : Round) → RoundFits n r → ReportFits n me → IsTold n me (Some d) → d.group < r.number
+    → is_reported me.member.who r.reports ≡ false → RoundFits n (round_answered me (Some d) r)
+answered_fits n me d r h fits told below new =
+    let best = better n me d r h told in
+    record {
       number_fits = h.number_fits;
       group_fits = h.group_fits;
       turn_fits = h.turn_fits;
@@ -103,11 +109,8 @@ answered_fits n me d r h fits told below new = go (is_older r.best.group r.best.
       each = all-push (ReportFits n) r.reports me h.each fits;
       distinct = distinct-push r.reports me h.distinct (others me.member.who r.reports new);
       below = all-push (IsBelow r.number) r.reports me h.below (record { kind = told.0; group = told.1; below = let g = told.2 in omega arith });
-      best_fits = h.best_fits;
-      greatest = record {
-        reported = of_longer r.best.group r.best.turn r.reports (me ∷ []) h.greatest.reported;
-        greatest = all-push (IsNotBelow r.best.group r.best.turn) r.reports me h.greatest.greatest (not_below r.best.group r.best.turn d me e told.2 told.3);
-      };
+      best_fits = best.0;
+      greatest = best.1;
     }
 
 -- a process that promises has no report in the round

@@ -1,7 +1,8 @@
 //! The text of a node: its record is written, and the lines of its text and of its clients are read.
 //!
 //! Rules held here: an event's record is its input, what its row tells without the datagrams, and the bytes of each datagram; an
-//! address has four numbers below 256 and a port above 0; a client's line is a send, a look, a stop, or unknown.
+//! address has four numbers below 256 and a port above 0; a client's line is a send, a look, a stop, or unknown; a snapshot shows
+//! the entries that it begins with, or none.
 #![tactic(auto)]
 
 mod client;

@@ -22,10 +22,7 @@ pub struct Packet {
 }
 
 impl Packet {
-    ghost use Rattle.std.specs.Prelude.{◌≡◌, ◌≤◌, take, length};
-    ghost use Rattle.tw_types.specs.Team.{IsSound};
-    ghost use Rattle.tw_types.specs.Ranges.{DatagramFits};
-    ghost use Rattle.tw_types.specs.Spelling.{spelling};
+    ghost use Rattle.std.specs.Prelude.{length};
     ghost use Rattle.record_text.specs.Packets.{packet_seen};
 
     /// The one spelling of a datagram, whose fields must each be in their range.

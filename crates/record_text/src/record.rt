@@ -1,13 +1,12 @@
 //! The record of a node is written.
 
-ghost use Rattle.std.specs.Prelude.{◌≡◌, ℕ, ◌∷◌, [], ◌++◌, map, length};
+ghost use Rattle.std.specs.Prelude.{◌≡◌, ℕ, ◌∷◌, [], ◌++◌, map};
 ghost use Rattle.std.specs.List.{flat_map};
 ghost use Rattle.tw_types.specs.Spelling.{spelling};
 ghost use Rattle.tw_machine.specs.Grammar.{team_line};
 ghost use Rattle.tw_machine.specs.Record.{Told, in_line, packet_line, core_line, mode_word, told_text};
-ghost use Rattle.tw_machine.specs.RowText.{row_line, entry_line, lines_before_sends};
+ghost use Rattle.tw_machine.specs.RowText.{row_line, entry_line};
 ghost use Rattle.schedule_text.specs.Puts.{Puts};
-ghost use Rattle.schedule_text.specs.LineFields.{field_text};
 ghost use Rattle.record_text.specs.Inputs.{input_seen};
 ghost use Rattle.record_text.specs.Packets.{packet_seen};
 ghost use Rattle.record_text.specs.Events.{event_text};

@@ -5,7 +5,8 @@ use Rattle.std.specs.List.{All, AllByRecursion}
 use Rattle.std.proofs.lemmas.List.{take_more}
 use Rattle.std.proofs.lemmas.List.Elements.{All-from_recursion}
 use Rattle.std.proofs.lemmas.Grind.{flat_map-append, common_steps}
-use Rattle.tw_machine.specs.Grammar.{IsPayload, hex_digits}
+use Rattle.tw_machine.specs.Grammar.{hex_digits}
+use Rattle.schedule_text.specs.Bytes.{AreBytes}
 use Rattle.tw_machine.proofs.Tables.{all_push}
 
 -- the bytes that the first i pairs of digits spell
@@ -38,8 +39,8 @@ one_spelled digits bytes i high low b l h high_fits low_fits first second is =
           ∙ ap (λ r. hex_digits bytes ++ r) (sym glyphs) ∙ sym (flat_map-append (λ x. digit_glyph false (x / 16) ∷ digit_glyph false (x % 16) ∷ []) bytes (b ∷ []));
     }
 
-pub all_spelled : (digits bytes : List ℕ) (i : ℕ) → length digits ≤ 2 * i → i ≤ 1024 → IsSpelled digits bytes i → IsPayload bytes × (digits ≡ hex_digits bytes)
-all_spelled digits bytes i l small h =
+pub all_spelled : (digits bytes : List ℕ) (i most : ℕ) → length digits ≤ 2 * i → i ≤ most → IsSpelled digits bytes i → AreBytes most bytes × (digits ≡ hex_digits bytes)
+all_spelled digits bytes i most l small h =
     let whole : take (2 * i) digits ≡ digits = grind (arith, common_steps) in
     ((omega (arith, h.count), h.fits), sym whole ∙ h.text)
 
@@ -56,7 +57,7 @@ glyphs_of [] h = tt
 glyphs_of (b ∷ bytes) h = ((b / 16, omega (arith, h.0), refl), ((b % 16, omega arith, refl), glyphs_of bytes h.1))
 
 -- a byte that is no digit stands in no such text
-pub no_glyph : (digits bytes : List ℕ) (k : ℕ) → k < length digits → ((d : ℕ) → d < 16 → get_or digits k 0 ≡ digit_glyph false d → ⊥) → IsPayload bytes → digits ≡ hex_digits bytes → ⊥
-no_glyph digits bytes k l none fits e =
+pub no_glyph : (digits bytes : List ℕ) (k most : ℕ) → k < length digits → ((d : ℕ) → d < 16 → get_or digits k 0 ≡ digit_glyph false d → ⊥) → AreBytes most bytes → digits ≡ hex_digits bytes → ⊥
+no_glyph digits bytes k most l none fits e =
     let at : IsGlyph (get_or digits k 0) = subst (All IsGlyph) (sym e) (All-from_recursion IsGlyph (hex_digits bytes) (glyphs_of bytes fits.1)) k 0 l in
     none at.0 at.1 at.2

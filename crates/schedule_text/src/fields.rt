@@ -6,10 +6,11 @@ ghost use Rattle.std.specs.Bool.{Decides};
 ghost use Rattle.std.specs.Fmt.{decimal};
 ghost use Rattle.tw_machine.specs.Types.{Order as OrderSeen, Atom as AtomSeen};
 ghost use Rattle.tw_machine.specs.Grammar.{IsPayload, order_word, atom_word, hex_word};
+ghost use Rattle.schedule_text.specs.Bytes.{AreBytes};
 ghost use Rattle.schedule_text.specs.Fields.{fields_left};
 
 use crate::grammar::Grammar;
-use crate::hex::payload;
+use crate::hex::bytes;
 use arrayvec::ArrayVec;
 use tw_types::{Atom, Order};
 
@@ -37,16 +38,16 @@ fn number(word: &[u8]) -> Option<u64>
     Some(number)
 }
 
-/// The index of the first space.
-fn space(bytes: &[u8]) -> Option<usize>
-    ensures first { result ≡ position (λ b. b == 32) bytes.now }
+/// The index of the first such byte.
+fn first(wanted: u8, bytes: &[u8]) -> Option<usize>
+    ensures first { result ≡ position (λ b. b == wanted) bytes.now }
     ensures within { IfSome result (λ i. i < length bytes.now) }
 {
-    bytes.iter().position(|byte| *byte == b' ')
+    bytes.iter().position(|byte| *byte == wanted)
 }
 
 /// Whether a word is this one.
-pub(crate) fn is_word(word: &[u8], text: &[u8]) -> bool
+pub fn is_word(word: &[u8], text: &[u8]) -> bool
     ensures { Decides result (word.now ≡ text.now) }
 {
     word == text
@@ -84,9 +85,10 @@ fn atom(word: &[u8]) -> Result<Atom, Grammar>
     }
 }
 
-/// The fields of a line that are still to be read. One space parts each two.
+/// The fields of a line that are still to be read. One space parts each two; within a word it may be another byte.
 #[derive(Clone, Copy)]
 pub struct Fields<'a> {
+    between: u8,
     rest: Option<&'a [u8]>,
 }
 
@@ -95,7 +97,17 @@ impl<'a> Fields<'a> {
     pub fn of(line: &'a [u8]) -> Self
         ensures { fields_left result ≡ slice_split (λ b. b == 32) line.now }
     {
-        Fields { rest: Some(line) }
+        Fields::parted(b' ', line)
+    }
+
+    /// All fields of a text, parted by this byte.
+    pub fn parted(between: u8, text: &'a [u8]) -> Self
+        ensures { fields_left result ≡ slice_split (λ b. b == between) text.now }
+    {
+        Fields {
+            between,
+            rest: Some(text),
+        }
     }
 
     /// Takes the next field, which may be empty. It is an error where none is left.
@@ -107,7 +119,7 @@ impl<'a> Fields<'a> {
         let Some(rest) = self.rest else {
             return Err(Grammar);
         };
-        if let Some(end) = space(rest) {
+        if let Some(end) = first(self.between, rest) {
             let (word, after) = rest.split_at(end);
             self.rest = Some(&after[1..]);
             Ok(word)
@@ -165,6 +177,14 @@ impl<'a> Fields<'a> {
         Ok((lo, hi))
     }
 
+    /// Takes the next field, which is to spell bytes, `N` at most: two lower-case hexadecimal digits a byte, and `-` for no byte.
+    pub fn bytes<const N: usize>(&mut self) -> Result<ArrayVec<u8, N>, Grammar>
+        ensures taken { IfOk result (λ bytes. AreBytes N bytes.items × (fields_left self.old ≡ hex_word bytes.items ∷ fields_left self.new)) }
+        ensures refused { OnErr result ((bytes : List ℕ) (more : List (List ℕ)) → AreBytes N bytes → fields_left self.old ≡ hex_word bytes ∷ more → ⊥) }
+    {
+        bytes(self.word()?)
+    }
+
     /// Takes the order, the atomicity and the payload of an update, each in a field of its own.
     pub fn update(&mut self) -> Result<(Order, Atom, ArrayVec<u8, 1024>), Grammar>
         ensures taken { IfOk result (λ u. IsPayload u.2.items × (fields_left self.old ≡ order_word u.0 ∷ atom_word u.1 ∷ hex_word u.2.items ∷ fields_left self.new)) }
@@ -172,7 +192,7 @@ impl<'a> Fields<'a> {
     {
         let order = order(self.word()?)?;
         let atom = atom(self.word()?)?;
-        let payload = payload(self.word()?)?;
+        let payload = self.bytes::<1024>()?;
         Ok((order, atom, payload))
     }
 

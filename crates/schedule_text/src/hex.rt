@@ -1,14 +1,12 @@
-//! Payloads as hexadecimal digits.
+//! Bytes as hexadecimal digits.
 
 ghost use Rattle.std.specs.Prelude.{◌≡◌, ℕ, ◌<◌, List, false, IfOk, OnErr};
 ghost use Rattle.std.specs.Fmt.{digit_glyph};
-ghost use Rattle.tw_machine.specs.Grammar.{IsPayload, hex_digits, hex_word};
+ghost use Rattle.tw_machine.specs.Grammar.{hex_digits, hex_word};
+ghost use Rattle.schedule_text.specs.Bytes.{AreBytes};
 
 use crate::grammar::Grammar;
 use arrayvec::ArrayVec;
-
-/// The most bytes of a payload.
-const BYTES: usize = 1024;
 
 /// The number below 16 that a lower-case digit stands for.
 fn digit(glyph: u8) -> Result<u8, Grammar>
@@ -22,12 +20,12 @@ fn digit(glyph: u8) -> Result<u8, Grammar>
     }
 }
 
-/// The bytes that lower-case hexadecimal digits spell, two a byte, 1,024 bytes at most.
-fn bytes_of(digits: &[u8]) -> Result<ArrayVec<u8, 1024>, Grammar>
-    ensures read { IfOk result (λ bytes. IsPayload bytes.items × (digits.now ≡ hex_digits bytes.items)) }
-    ensures refused { OnErr result ((bytes : List ℕ) → IsPayload bytes → digits.now ≡ hex_digits bytes → ⊥) }
+/// The bytes that lower-case hexadecimal digits spell, two a byte, `N` bytes at most.
+fn bytes_of<const N: usize>(digits: &[u8]) -> Result<ArrayVec<u8, N>, Grammar>
+    ensures read { IfOk result (λ bytes. AreBytes N bytes.items × (digits.now ≡ hex_digits bytes.items)) }
+    ensures refused { OnErr result ((bytes : List ℕ) → AreBytes N bytes → digits.now ≡ hex_digits bytes → ⊥) }
 {
-    if digits.len() % 2 == 1 || digits.len() / 2 > BYTES {
+    if digits.len() % 2 == 1 || digits.len() / 2 > N {
         return Err(Grammar);
     }
     let mut bytes = ArrayVec::new();
@@ -39,10 +37,10 @@ fn bytes_of(digits: &[u8]) -> Result<ArrayVec<u8, 1024>, Grammar>
     Ok(bytes)
 }
 
-/// The bytes that a word spells, 1,024 at most: two lower-case hexadecimal digits a byte, and `-` for no byte.
-pub fn payload(word: &[u8]) -> Result<ArrayVec<u8, 1024>, Grammar>
-    ensures read { IfOk result (λ bytes. IsPayload bytes.items × (word.now ≡ hex_word bytes.items)) }
-    ensures refused { OnErr result ((bytes : List ℕ) → IsPayload bytes → word.now ≡ hex_word bytes → ⊥) }
+/// The bytes that a word spells, `N` at most: two lower-case hexadecimal digits a byte, and `-` for no byte.
+pub fn bytes<const N: usize>(word: &[u8]) -> Result<ArrayVec<u8, N>, Grammar>
+    ensures read { IfOk result (λ bytes. AreBytes N bytes.items × (word.now ≡ hex_word bytes.items)) }
+    ensures refused { OnErr result ((bytes : List ℕ) → AreBytes N bytes → word.now ≡ hex_word bytes → ⊥) }
 {
     match word {
         b"" => Err(Grammar),

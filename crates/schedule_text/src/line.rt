@@ -15,16 +15,18 @@ use tw_types::UpdateId;
 
 /// A field of a line.
 #[derive(Clone, Copy, Default)]
-pub(crate) enum Field<'a> {
+pub enum Field<'a> {
     /// The plus that a line after a row's first begins with.
     #[default]
     Plus,
     Word(&'static str),
+    /// A number in decimal digits.
     Number(u64),
     /// The sum of two numbers, which may have no room in one of them.
     Sum(u64, u64),
     /// Two numbers with a point between.
     Pair(u64, u64),
+    /// The three numbers of an update, with points between.
     Id(UpdateId),
     /// Two hexadecimal digits a byte, or a minus for no byte.
     Bytes(&'a [u8]),
@@ -126,8 +128,9 @@ fn put_fields<K: Sink>(sink: &mut K, fields: &[Field<'_>]) -> Result<(), WriteFa
     Ok(())
 }
 
-/// Writes a line of the fields, first those of `front`, which has at least one, and then those of `back`.
-pub(crate) fn put_line<K: Sink>(
+/// Writes a line of the fields, first those of `front`, which has at least one, and then those of `back`. An `Err` leaves a
+/// front of the line written.
+pub fn put_line<K: Sink>(
     sink: &mut K,
     front: &[Field<'_>],
     back: &[Field<'_>],

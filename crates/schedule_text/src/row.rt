@@ -6,16 +6,18 @@ ghost use Rattle.std.specs.Option.{option_map};
 ghost use Rattle.tw_io.specs.Faults.{IsRisen};
 ghost use Rattle.tw_types.specs.Printed.{made_printed, contents_of, sends_printed};
 ghost use Rattle.tw_machine.specs.Grammar.{order_word, atom_word};
-ghost use Rattle.tw_machine.specs.RowText.{flag_text, reading_text, how_word, member_text, made_line, send_line, row_line, row_text};
+ghost use Rattle.tw_machine.specs.RowText.{flag_text, reading_text, how_word, member_text, made_line, send_line, entry_line, row_line, answer_words, line_of, lines_before_sends, row_text};
 ghost use Rattle.schedule_text.specs.Puts.{Puts};
 ghost use Rattle.schedule_text.specs.LineFields.{field_text};
-ghost use Rattle.schedule_text.specs.RowLines.{pass_text, early_text, entry_text, outputs_text};
+ghost use Rattle.schedule_text.specs.RowLines.{pass_text, early_text, entry_text, deliveries_text};
 
 use crate::answer::{answer_fields, contents_fields};
 use crate::line::{Field, put_line};
 use arrayvec::ArrayVec;
 use tw_io::{Sink, WriteFailed};
-use tw_types::{Atom, Body, Datagram, Decision, How, Kept, Order, Outputs, Pass, Row, Seat};
+use tw_types::{
+    Atom, Body, Datagram, Decision, How, Kept, Order, Outputs, Pass, Row, RowAnswer, Seat,
+};
 
 fn flag_field(flag: bool) -> Field<'static>
     ensures { field_text result ≡ flag_text flag }
@@ -32,7 +34,8 @@ fn reading_field(reading: Option<u64>) -> Field<'static>
     }
 }
 
-fn order_name(order: Order) -> &'static str
+/// The word that names an order.
+pub fn order_name(order: Order) -> &'static str
     ensures { result.now ≡ order_word order }
 {
     match order {
@@ -42,7 +45,8 @@ fn order_name(order: Order) -> &'static str
     }
 }
 
-fn atom_name(atom: Atom) -> &'static str
+/// The word that names an atomicity.
+pub fn atom_name(atom: Atom) -> &'static str
     ensures { result.now ≡ atom_word atom }
 {
     match atom {
@@ -73,7 +77,8 @@ fn member_fields(seats: &ArrayVec<Seat, 15>) -> ArrayVec<Field<'static>, 15>
     fields
 }
 
-fn put_first<K: Sink>(sink: &mut K, row: &Row) -> Result<(), WriteFailed>
+/// Writes the first line of a row. An `Err` leaves a front of it written.
+pub fn write_line<K: Sink>(row: &Row, sink: &mut K) -> Result<(), WriteFailed>
     ensures { Puts (K.taken sink.old) (K.taken sink.new) (K.faults sink.old) (K.faults sink.new) result (row_line row.now) }
 {
     let line = &row.line;
@@ -88,6 +93,13 @@ fn put_first<K: Sink>(sink: &mut K, row: &Row) -> Result<(), WriteFailed>
         Field::Number(line.passed),
     ];
     put_line(sink, &fields, &answer_fields(line.answer))
+}
+
+/// Writes a line of the words that tell how a step ended, and of nothing else. An `Err` leaves a front of it written.
+pub fn write_answer<K: Sink>(answer: RowAnswer, sink: &mut K) -> Result<(), WriteFailed>
+    ensures { Puts (K.taken sink.old) (K.taken sink.new) (K.faults sink.old) (K.faults sink.new) result (line_of (answer_words answer)) }
+{
+    put_line(sink, &answer_fields(answer), &[])
 }
 
 fn put_made<K: Sink>(sink: &mut K, made: &Decision) -> Result<(), WriteFailed>
@@ -215,27 +227,50 @@ fn put_made_or_nothing<K: Sink>(sink: &mut K, out: &Outputs) -> Result<(), Write
     }
 }
 
-/// Writes a line for each thing that a step gave.
-fn put_outputs<K: Sink>(
-    sink: &mut K,
-    out: &Outputs,
-    first: u32,
-    entries: &[(u32, u64)],
-) -> Result<(), WriteFailed>
-    ensures { Puts (K.taken sink.old) (K.taken sink.new) (K.faults sink.old) (K.faults sink.new) result (outputs_text out.now first entries.now) }
+/// Writes a line for each thing that was decided or delivered in a step.
+fn put_deliveries<K: Sink>(sink: &mut K, out: &Outputs) -> Result<(), WriteFailed>
+    ensures { Puts (K.taken sink.old) (K.taken sink.new) (K.faults sink.old) (K.faults sink.new) result (deliveries_text out.now) }
 {
     put_made_or_nothing(sink, out)?;
     put_passes(sink, out.passes.as_slice())?;
-    put_earlies(sink, out.earlies.as_slice())?;
-    put_sends(sink, first, out.sends.as_slice())?;
-    put_entries(sink, entries)
+    put_earlies(sink, out.earlies.as_slice())
+}
+
+fn put_below_line<K: Sink>(sink: &mut K, row: &Row) -> Result<(), WriteFailed>
+    ensures { Puts (K.taken sink.old) (K.taken sink.new) (K.faults sink.old) (K.faults sink.new) result (lines_before_sends row.now) }
+{
+    put_deliveries(sink, &row.out)
+}
+
+/// Writes what of a row stands before its datagrams: its line, and what was decided and delivered in the step. An `Err` leaves
+/// a front of it written.
+pub fn write_before_sends<K: Sink>(row: &Row, sink: &mut K) -> Result<(), WriteFailed>
+    ensures { Puts (K.taken sink.old) (K.taken sink.new) (K.faults sink.old) (K.faults sink.new) result (row_line row.now ++ lines_before_sends row.now) }
+{
+    write_line(row, sink)?;
+    put_below_line(sink, row)
+}
+
+/// Writes a line for each datagram of a row. An `Err` leaves a front of them written.
+pub fn write_sends<K: Sink>(row: &Row, sink: &mut K) -> Result<(), WriteFailed>
+    ensures { Puts (K.taken sink.old) (K.taken sink.new) (K.faults sink.old) (K.faults sink.new) result (flat_map send_line row.now.sends) }
+{
+    put_sends(sink, row.first, row.out.sends.as_slice())
+}
+
+/// Writes a line for each entry of the table that a row shows. An `Err` leaves a front of them written.
+pub fn write_entries<K: Sink>(row: &Row, sink: &mut K) -> Result<(), WriteFailed>
+    ensures { Puts (K.taken sink.old) (K.taken sink.new) (K.faults sink.old) (K.faults sink.new) result (flat_map entry_line row.now.entries) }
+{
+    put_entries(sink, &row.entries)
 }
 
 fn put_row<K: Sink>(sink: &mut K, row: &Row) -> Result<(), WriteFailed>
     ensures { Puts (K.taken sink.old) (K.taken sink.new) (K.faults sink.old) (K.faults sink.new) result (row_text row.now) }
 {
-    put_first(sink, row)?;
-    put_outputs(sink, &row.out, row.first, &row.entries)
+    write_before_sends(row, sink)?;
+    write_sends(row, sink)?;
+    write_entries(row, sink)
 }
 
 /// Writes the text of a row: its line, and a line for each thing that its step gave. An `Err` leaves a front of the text

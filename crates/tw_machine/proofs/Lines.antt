@@ -28,18 +28,22 @@ no_space rest p e = grind (arith, nat_tests)
 take_rest : (rest : List ℕ) (k : ℕ) → take (length rest - k) (drop k rest) ≡ drop k rest
 take_rest rest k = grind (arith, common_steps)
 
-pub first_word : (rest word after : List ℕ) (end : ℕ) → position (λ b. b == 32) rest ≡ Some end → word ≡ take end rest → after ≡ drop end rest → cut rest ≡ word ∷ cut (take (length after - 1) (drop 1 after))
-first_word rest word after end e is is_after =
+-- the parts of a text that one byte parts
+abbrev pub parted : ℕ → List ℕ → List (List ℕ)
+parted s text = slice_split (λ b. b == s) text
+
+pub first_word : (s : ℕ) (rest word after : List ℕ) (end : ℕ) → position (λ b. b == s) rest ≡ Some end → word ≡ take end rest → after ≡ drop end rest → parted s rest ≡ word ∷ parted s (take (length after - 1) (drop 1 after))
+first_word s rest word after end e is is_after =
     let at = space_at rest end _ e in
-    let first : cut rest ≡ before_first (λ b. b == 32) rest ∷ cut (after_first (λ b. b == 32) rest) = slice_split_first (λ b. b == 32) rest 0 (omega (arith, at.0, at.1)) in
-    let found = subst (λ k. cut rest ≡ take k rest ∷ cut (drop (k + 1) rest)) at.0 first in
+    let first : parted s rest ≡ before_first (λ b. b == s) rest ∷ parted s (after_first (λ b. b == s) rest) = slice_split_first (λ b. b == s) rest 0 (omega (arith, at.0, at.1)) in
+    let found = subst (λ k. parted s rest ≡ take k rest ∷ parted s (drop (k + 1) rest)) at.0 first in
     let back : drop (end + 1) rest ≡ take (length after - 1) (drop 1 after) = sym (take_rest after 1 ∙ ap (drop 1) is_after ∙ drop-drop 1 end rest) in
     found ∙ cc
 
-pub last_word : (rest : List ℕ) → position (λ b. b == 32) rest ≡ None → cut rest ≡ rest ∷ []
-last_word rest e =
+pub last_word : (s : ℕ) (rest : List ℕ) → position (λ b. b == s) rest ≡ None → parted s rest ≡ rest ∷ []
+last_word s rest e =
     let l = no_space rest _ e in
-    slice_split_none (λ b. b == 32) rest (λ k d h. fails_before_first (λ b. b == 32) rest k d (omega (arith, l)))
+    slice_split_none (λ b. b == s) rest (λ k d h. fails_before_first (λ b. b == s) rest k d (omega (arith, l)))
 
 -- a word with no space and no line feed
 abbrev pub is_plain : List ℕ → Bool
@@ -72,7 +76,7 @@ plain_decimal n small =
     list_all-from_AllPass (λ b. not (b == 32) && not (b == 10)) (decimal n) (All-from_get_or (λ b. (not (b == 32) && not (b == 10)) ≡ true) (decimal n) 0 (λ i l. let r = digit_at (decimal n) i numeral.0.1 l in plain_byte (get_or (decimal n) i 0) (omega arith)))
 
 -- plain words are the fields of their line
-cut_join : (word : List ℕ) (words : List (List ℕ)) → is_plain word ≡ true → ArePlain words → cut (join_with_byte 32 (word ∷ words)) ≡ word ∷ words
+pub cut_join : (word : List ℕ) (words : List (List ℕ)) → is_plain word ≡ true → ArePlain words → cut (join_with_byte 32 (word ∷ words)) ≡ word ∷ words
 cut_join word [] h hs = slice_split_none (λ b. b == 32) word (spaceless word h)
 cut_join word (next ∷ words) h hs = slice_split_at (λ b. b == 32) word 32 (join_with_byte 32 (next ∷ words)) (spaceless word h) refl ∙ ap (λ r. word ∷ r) (cut_join next words hs.0 hs.1)
 
@@ -83,12 +87,12 @@ feedless_join word (next ∷ words) h hs = All-append (λ b. (b == 10) ≡ false
 pub plain_numbers : (team : Team) → IsWritten team → ArePlain (team_fields team)
 plain_numbers team w = (refl, (plain_decimal team.n (omega (arith, w.n)), (plain_decimal team.line (omega (arith, w.line)), (plain_decimal _ w.ppm, (plain_decimal _ w.eps, (plain_decimal _ w.delta, (plain_decimal _ w.pace, (plain_decimal _ w.decide, (plain_decimal _ w.ring, (plain_decimal _ w.slot, (plain_decimal _ w.lease, (plain_decimal _ w.quarantine, (plain_decimal _ w.theta, tt)))))))))))))
 
-plain_order : (order : Order) → is_plain (order_word order) ≡ true
+pub plain_order : (order : Order) → is_plain (order_word order) ≡ true
 plain_order Unordered = refl
 plain_order Total = refl
 plain_order Timed = refl
 
-plain_atom : (atom : Atom) → is_plain (atom_word atom) ≡ true
+pub plain_atom : (atom : Atom) → is_plain (atom_word atom) ≡ true
 plain_atom Weak = refl
 plain_atom Strong = refl
 plain_atom Strict = refl
@@ -100,7 +104,7 @@ plain_digits : (bytes : List ℕ) → is_plain (hex_digits bytes) ≡ true
 plain_digits [] = refl
 plain_digits (b ∷ bytes) = rw (plain_glyph (b / 16), plain_glyph (b % 16)) (plain_digits bytes)
 
-plain_hex : (bytes : List ℕ) → is_plain (hex_word bytes) ≡ true
+pub plain_hex : (bytes : List ℕ) → is_plain (hex_word bytes) ≡ true
 plain_hex [] = refl
 plain_hex (b ∷ bytes) = plain_digits (b ∷ bytes)
 

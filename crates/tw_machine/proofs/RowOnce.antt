@@ -1,5 +1,5 @@
 -- Two rows that can be printed have one text only where they are one row.
-use Rattle.std.proofs.Common.{◌≡◌, ℕ, refl, ap, sym, ◌∙◌, List, [], ◌∷◌, ◌++◌, get_or, drop, map, Bool, true, false, Option, Some, None}
+use Rattle.std.proofs.Common.{◌≡◌, ℕ, refl, ap, sym, ◌∙◌, append_assoc, List, [], ◌∷◌, ◌++◌, get_or, drop, map, Bool, true, false, Option, Some, None}
 use Rattle.std.specs.Prelude.{codes}
 use Rattle.std.specs.Fmt.{decimal}
 use Rattle.std.specs.List.{AllByRecursion, flat_map}
@@ -7,7 +7,7 @@ use Rattle.std.proofs.lemmas.List.{append-nil}
 use Rattle.tw_machine.specs.Types.{Member, RowAnswer}
 use Rattle.tw_types.specs.Row.{Made, Pass, Sending, Entry, Row}
 use Rattle.tw_types.specs.Row as row
-use Rattle.tw_machine.specs.RowText.{line_of, member_text, flag_text, reading_text, answer_words, made_line, lines_below, row_line, row_text, text_of}
+use Rattle.tw_machine.specs.RowText.{line_of, member_text, flag_text, reading_text, answer_words, made_line, pass_line, early_line, send_line, entry_line, lines_below, row_line, row_text, text_of}
 use Rattle.tw_machine.specs.RowLimits.{MemberFits, MadeFits, PassFits, UpdateFits, SendingFits, EntryFits, RowFits}
 use Rattle.tw_machine.proofs.RowWords.{number_of, number_back, first_digit, word_decimal, pair_text, part_at, pair_first, pair_second, word_pair, member_of, member_back, word_member}
 use Rattle.tw_machine.proofs.RowLines.{AreWords, IsLine, same_lines, over_append, over_map, all_over_append, all_over_map, each_over_map, OtherHead, other_head, split_kind, same_items}
@@ -119,8 +119,12 @@ from_passes r = map pass_fields r.passes ++ from_earlies r
 abbrev below : Row → Lines
 below r = made_lines r.made ++ from_passes r
 
+-- one line after the other
+in_a_row : (r : Row) → lines_below r ≡ made_line r.made ++ (flat_map pass_line r.passes ++ (flat_map early_line r.earlies ++ (flat_map send_line r.sends ++ flat_map entry_line r.entries)))
+in_a_row r = append_assoc (made_line r.made) _ _ ∙ ap (λ t. made_line r.made ++ t) (append_assoc (flat_map pass_line r.passes) (flat_map early_line r.earlies) _)
+
 text_below : (r : Row) → lines_below r ≡ flat_map line_of (below r)
-text_below r = rw (
+text_below r = in_a_row r ∙ rw (
   over_append line_of (made_lines r.made) (from_passes r),
   over_append line_of (map pass_fields r.passes) (from_earlies r),
   over_append line_of (map early_fields r.earlies) (from_sends r),

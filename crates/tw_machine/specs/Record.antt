@@ -1,6 +1,6 @@
 -- The record of a node: its team, how its process was started, and each event with the row and the datagrams that came of it.
-use Rattle.std.specs.Prelude.{ℕ, ◌+◌, List, [], ◌∷◌, ◌++◌, Option, Some, None, Result, codes}
-use Rattle.std.specs.List.{join_with_byte, flat_map}
+use Rattle.std.specs.Prelude.{ℕ, List, [], ◌∷◌, ◌++◌, Some, Result, codes}
+use Rattle.std.specs.List.{flat_map}
 use Rattle.std.specs.Fmt.{decimal}
 use Rattle.tw_machine.specs.Types.{Team, Order, Atom, Mode, Datagram, WireFault, RowAnswer}
 use Rattle.tw_types.specs.declared.outputs.Mode.TheVariants as modes
@@ -12,8 +12,8 @@ use Rattle.tw_types.specs.Spelling.{spelling}
 use Rattle.tw_machine.specs.Applied.{Meaning}
 use Rattle.tw_machine.specs.Event as event
 use Rattle.tw_machine.specs.Grammar.{team_line, act_fields, hex_word}
-use Rattle.tw_machine.specs.Lives.{Happening, At, LookedAt, after_all}
-use Rattle.tw_machine.specs.RowText.{line_of, row_line, made_line, pass_line, early_line, entry_line}
+use Rattle.tw_machine.specs.Lives.{Happening, At, LookedAt}
+use Rattle.tw_machine.specs.RowText.{line_of, row_line, lines_around}
 use Rattle.tw_machine.specs.Rows.{line_by, entries_by}
 use Rattle.tw_machine.specs.Step.{looked, view_of}
 use Rattle.tw_machine.specs.World.{Deed, silent, happen}
@@ -77,14 +77,17 @@ told_by meaning team who number h input d next = record {
 abbrev pub in_line : ℕ → Input → List ℕ
 in_line h input = line_of (codes "in" ∷ decimal h ∷ input_fields input)
 
--- `+ out WHO HEX`, the whole datagram
+-- `+ out WHO HEX`, the bytes of a datagram behind its receiver
+abbrev pub packet_line : ℕ × List ℕ → List ℕ
+packet_line p = line_of (codes "+" ∷ codes "out" ∷ decimal p.0 ∷ hex_word p.1 ∷ [])
+
+-- the whole datagram
 abbrev pub out_line : ℕ → ℕ × Datagram → List ℕ
-out_line line s = line_of (codes "+" ∷ codes "out" ∷ decimal s.0 ∷ hex_word (spelling line s.1) ∷ [])
+out_line line s = packet_line (s.0, spelling line s.1)
 
 -- the row's line, what was decided and delivered, the datagrams, and what a look shows of the table
 abbrev pub outputs_text : ℕ → Told → List ℕ
-outputs_text line t = row_line t.row ++ (made_line t.row.made ++ (flat_map pass_line t.row.passes ++ (flat_map early_line t.row.earlies
-    ++ (flat_map (out_line line) t.sends ++ flat_map entry_line t.row.entries))))
+outputs_text line t = row_line t.row ++ lines_around (flat_map (out_line line) t.sends) t.row
 
 abbrev pub told_text : ℕ → Told → List ℕ
 told_text line t = in_line t.h t.input ++ outputs_text line t

@@ -123,9 +123,17 @@ send_line s = line_of (codes "+" ∷ codes "send" ∷ decimal s.number ∷ codes
 abbrev pub entry_line : Entry → List ℕ
 entry_line e = line_of (codes "+" ∷ codes "entry" ∷ decimal e.key ∷ decimal e.value ∷ [])
 
--- the lines of what happened in the step, in this order
+-- the lines of what was decided and delivered in the step, in this order
+abbrev pub lines_before_sends : Row → List ℕ
+lines_before_sends r = made_line r.made ++ (flat_map pass_line r.passes ++ flat_map early_line r.earlies)
+
+-- the lines of what happened in the step, in this order, with these for its datagrams
+abbrev pub lines_around : List ℕ → Row → List ℕ
+lines_around sends r = lines_before_sends r ++ (sends ++ flat_map entry_line r.entries)
+
+-- a row numbers its datagrams, and says what each is
 abbrev pub lines_below : Row → List ℕ
-lines_below r = made_line r.made ++ (flat_map pass_line r.passes ++ (flat_map early_line r.earlies ++ (flat_map send_line r.sends ++ flat_map entry_line r.entries)))
+lines_below r = lines_around (flat_map send_line r.sends) r
 
 abbrev pub row_text : Row → List ℕ
 row_text r = row_line r ++ lines_below r

@@ -3,6 +3,9 @@ use Rattle.tw_io.specs.LineReader.{held, line_given}
 use Rattle.replayer.proofs.Replays.{not_longer, is_taken, line_taken, lost_taken}
 use Rattle.replayer.proofs.steps.next_step.Goals as goal
 
+pub returns-in-Err-clause-next : goal.returns-in-Err-clause-next
+returns-in-Err-clause-next g c = λ past bytes stands left. let e = c.in-Err.ensures.err bytes left in (e.0, e.1, e.2, c.in-Err.ensures.open_line)
+
 pub returns-in-Err-Cause-clause-next : goal.returns-in-Err-Cause-clause-next
 returns-in-Err-Cause-clause-next g c = λ past bytes stands left.
     let n = (rw c.in-Ok-Some.field-0-is at c.in-Ok-Some.ensures.next) bytes left in

@@ -3,7 +3,7 @@
 //! `source`, `sink`, `clock` and `link` make the forms in memory, and `steady_source` and `steady_sink` those that never
 //! fail; `pipe` makes the system's forms over the ends of a pipe, and `broken` over a reader and a writer that fail each
 //! time. `slow_source` gives at most so many bytes at each read, and `long_source` has a row of one byte before its bytes.
-//! `lines` makes a reader of lines, and `list_link` a link that keeps what is sent. `read`, `write`, `now`, `bind`, `send`, `send_row`,
+//! `lines` makes a reader of lines, which `line` and `at_end` ask, and `list_link` a link that keeps what is sent. `read`, `write`, `now`, `bind`, `send`, `send_row`,
 //! `recv`, `sent` and `line` call what was made last.
 
 ghost use Rattle.std.specs.Prelude.{◌≡◌, ◌≤◌, true, length};
@@ -221,6 +221,10 @@ fn next_line<S: Source>(
     format!(in alloc; "{next:?} {line}")
 }
 
+fn is_at_end<S: Source>(reader: &mut LineReader, source: &mut S) -> Result<bool, ReadFailed> {
+    reader.is_at_end(source)
+}
+
 fn steady_source_of(alloc: Global, words: &mut Words<'_>) -> Result<Input, AllocError> {
     let bytes = bytes(alloc, words)?;
     match SteadyIn::new(alloc, &bytes) {
@@ -321,6 +325,7 @@ impl Calls for Outside {
             "line",
             "send_row",
             "sent",
+            "at_end",
             "source",
             "steady_source",
             "broken_source",
@@ -349,6 +354,7 @@ impl Calls for Outside {
             9 => self.line(alloc),
             10 => self.send_row(alloc, words),
             11 => self.sent(alloc, words.count()),
+            12 => self.at_end(alloc),
             form => {
                 if self.make(rt, form, words).is_err() {
                     words.are_wrong = true;
@@ -381,23 +387,23 @@ impl Outside {
     fn make(&mut self, rt: &HostRuntime, form: usize, words: &mut Words<'_>) -> io::Result<()> {
         let alloc = rt.alloc();
         match form {
-            12 => self.input = source_of(alloc, words)?,
-            13 => self.input = steady_source_of(alloc, words)?,
-            14 => self.input = Input::Broken(StandardInput::new(Broken)),
-            15 => self.output = sink_of(alloc, words)?,
-            16 => self.output = Output::Steady(SteadyOut::new()),
-            17 => self.output = Output::Broken(StandardOutput::new(Broken)),
-            18 => self.clock = new_clock(alloc, &numbers(alloc, words)?)?,
-            19 => self.link = link_of(alloc, words)?,
-            20 => {
+            13 => self.input = source_of(alloc, words)?,
+            14 => self.input = steady_source_of(alloc, words)?,
+            15 => self.input = Input::Broken(StandardInput::new(Broken)),
+            16 => self.output = sink_of(alloc, words)?,
+            17 => self.output = Output::Steady(SteadyOut::new()),
+            18 => self.output = Output::Broken(StandardOutput::new(Broken)),
+            19 => self.clock = new_clock(alloc, &numbers(alloc, words)?)?,
+            20 => self.link = link_of(alloc, words)?,
+            21 => {
                 let (reader, writer) = io::pipe(rt)?;
                 self.input = Input::Pipe(StandardInput::new(reader));
                 self.output = Output::Pipe(StandardOutput::new(writer));
             }
-            21 => self.input = slow_source_of(alloc, 0, words)?,
-            22 => self.input = slow_source_of(alloc, words.count(), words)?,
-            23 => self.reader = new_reader(alloc, words.count())?,
-            24 => self.link = list_link_of(alloc, words)?,
+            22 => self.input = slow_source_of(alloc, 0, words)?,
+            23 => self.input = slow_source_of(alloc, words.count(), words)?,
+            24 => self.reader = new_reader(alloc, words.count())?,
+            25 => self.link = list_link_of(alloc, words)?,
             _ => {}
         }
         Ok(())
@@ -422,6 +428,17 @@ impl Outside {
             Input::Pipe(source) => next_line(alloc, &mut self.reader, source),
             Input::Broken(source) => next_line(alloc, &mut self.reader, source),
         }
+    }
+
+    fn at_end(&mut self, alloc: Global) -> Result<String, AllocError> {
+        let answer = match &mut self.input {
+            Input::Listed(source) => is_at_end(&mut self.reader, source),
+            Input::Slow(source) => is_at_end(&mut self.reader, source),
+            Input::Steady(source) => is_at_end(&mut self.reader, source),
+            Input::Pipe(source) => is_at_end(&mut self.reader, source),
+            Input::Broken(source) => is_at_end(&mut self.reader, source),
+        };
+        shown(alloc, &answer)
     }
 
     fn write(&mut self, alloc: Global, words: &mut Words<'_>) -> Result<String, AllocError> {

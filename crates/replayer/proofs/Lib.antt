@@ -1,9 +1,7 @@
-pub mod Cuts
-pub mod Extents
-pub mod Inputs
-pub mod Replays
 pub mod Sound
+pub mod Decided
 pub mod Verdicts
 pub mod Tops
+pub mod Replays
 mod Premises
 mod Commands

@@ -1,6 +1,6 @@
 -- Lines that are a step's, texts that are each of the things that a text may be, and others that aren't, worked out by
 -- hand.
-use Rattle.std.proofs.Common.{◌≡◌, refl, ap, inl, inr, ℕ, zero, suc, ◌+◌, arith, true, List, [], ◌∷◌, length, None}
+use Rattle.std.proofs.Common.{◌≡◌, refl, ap, inl, inr, ℕ, zero, suc, ◌+◌, arith, true, List, [], ◌∷◌, length, take, None}
 use Rattle.std.specs.Prelude.{codes, nat_le}
 use Rattle.std.specs.Fmt.{digits}
 use Rattle.std.specs.List.{list_all}
@@ -16,7 +16,7 @@ use Rattle.tw_machine.specs.Admissible.{cause_of, each_own, is_running, keeps_dr
 use Rattle.tw_machine.specs.Dispatches.{Dispatch}
 use Rattle.tw_machine.specs.World.{world, Admissible}
 use Rattle.replayer.specs.Replay.{step_limit, Spells, Verdict, Whole, Faulty, BadLine, Endless, IsVerdict, status_of}
-use Rattle.tw_io.specs.Lines.{lines_of}
+use Rattle.tw_io.specs.Lines.{lines_of, ended_lines}
 use Rattle.replayer.specs.Statuses.{IsGood, HasFaultyTeam, HasBadLine, HasTooMany, IsBadSchedule}
 use Rattle.replayer.specs.Answers.{GaveUp}
 use Rattle.replayer.proofs.Verdicts.{verdict_once}
@@ -256,3 +256,35 @@ has_too_many = line_too_many 99999 (omega arith)
 
 has_not_too_many : HasTooMany good_text → ⊥
 has_not_too_many is = let e = verdict_once good_text (Endless is.0 is.1) whole is.2 is_whole in cc
+
+-- ---- lines that were read to their line feed
+
+-- a team's line and fifteen steps, which form a group
+abbrev group_text : List ℕ
+group_text = codes "team 3 7 0 1000 10000 20000 10000 50000 100000 400000 1104003 30000\n699990 0 699990 first\n699990 1 699990 first\n699990 2 699990 first\n700000 0 700000 ref 700000 700000\n700000 1 700000 ref 700000 700000\n700000 2 700000 ref 700000 700000\n700000 1 700000 tick\n701000 0 701000 recv 1\n701000 2 701000 recv 2\n702000 1 702000 recv 5\n702000 1 702000 recv 8\n703000 2 703000 recv 12\n712000 2 712000 tick\n713000 1 713000 recv 14\n713000 0 713000 recv 13\n"
+
+-- how many of its lines are read to their line feed, with the team's, where so many bytes were read
+abbrev ended_within : ℕ → ℕ
+ended_within count = length (ended_lines (take count group_text))
+
+nothing_read : ended_within 0 ≡ 0
+nothing_read = refl
+
+team_line_open : ended_within 67 ≡ 0
+team_line_open = refl
+
+team_line_ended : ended_within 68 ≡ 1
+team_line_ended = refl
+
+steps_open : (ended_within 89 ≡ 1) × (ended_within 111 ≡ 2) × (ended_within 133 ≡ 3) × (ended_within 167 ≡ 4) × (ended_within 201 ≡ 5) × (ended_within 235 ≡ 6) × (ended_within 256 ≡ 7) × (ended_within 279 ≡ 8) × (ended_within 302 ≡ 9) × (ended_within 325 ≡ 10) × (ended_within 348 ≡ 11) × (ended_within 372 ≡ 12) × (ended_within 393 ≡ 13) × (ended_within 417 ≡ 14) × (ended_within 441 ≡ 15)
+steps_open = (refl, refl, refl, refl, refl, refl, refl, refl, refl, refl, refl, refl, refl, refl, refl)
+
+steps_ended : (ended_within 90 ≡ 2) × (ended_within 112 ≡ 3) × (ended_within 134 ≡ 4) × (ended_within 168 ≡ 5) × (ended_within 202 ≡ 6) × (ended_within 236 ≡ 7) × (ended_within 257 ≡ 8) × (ended_within 280 ≡ 9) × (ended_within 303 ≡ 10) × (ended_within 326 ≡ 11) × (ended_within 349 ≡ 12) × (ended_within 373 ≡ 13) × (ended_within 394 ≡ 14) × (ended_within 418 ≡ 15) × (ended_within 442 ≡ 16)
+steps_ended = (refl, refl, refl, refl, refl, refl, refl, refl, refl, refl, refl, refl, refl, refl, refl)
+
+-- a last line without a line feed is a line, but wasn't read to one
+last_line_open : (lines_of (codes "a\nb") ≡ codes "a" ∷ codes "b" ∷ []) × (ended_lines (codes "a\nb") ≡ codes "a" ∷ [])
+last_line_open = (refl, refl)
+
+two_line_feeds : ended_lines (codes "a\n\nb") ≡ codes "a" ∷ [] ∷ []
+two_line_feeds = refl

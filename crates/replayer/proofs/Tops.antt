@@ -30,7 +30,7 @@ told s t tells same = subst (λ (x : Status). TellsOfText x) same tells
 pub settled : (s t : Status) → s ≡ t → (GaveUp t → ⊥) → GaveUp s → ⊥
 settled s t e not gave = not (subst (λ (x : Status). GaveUp x) e gave)
 
-begins_well : (lines : List (List ℕ)) (team : Team) (past : List Step) (rest : List (List ℕ)) → Begins lines team past rest → SafeRows team (rows_of entries_of team past) × ReadsWell entries_of team past
+pub begins_well : (lines : List (List ℕ)) (team : Team) (past : List Step) (rest : List (List ℕ)) → Begins lines team past rest → SafeRows team (rows_of entries_of team past) × ReadsWell entries_of team past
 begins_well lines team past rest begins = (safe_rows entries_of team past (sound_of team begins.sound) begins.admissible, reads_well entries_of team past (sound_of team begins.sound) begins.admissible)
 
 -- the rows before the line that ends a text are safe, and read near team time

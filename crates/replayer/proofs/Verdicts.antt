@@ -9,8 +9,7 @@ use Rattle.schedule_text.specs.declared.status.Status.TheVariants as status
 use Rattle.tw_machine.specs.Grammar.{IsTeamLine, IsStepLine}
 use Rattle.tw_machine.specs.Admissible.{cause_of}
 use Rattle.tw_machine.specs.World.{world, Admissible}
-use Rattle.replayer.specs.Replay.{step_limit, Spells, Begins, IsBadLine, Verdict, Whole, NoTeam, Faulty, BadLine, Endless, IsVerdict, status_of, text_before}
-use Rattle.replayer.specs.Cuts.{Tells}
+use Rattle.replayer.specs.Replay.{step_limit, Spells, Begins, IsBadLine, Verdict, Whole, NoTeam, Faulty, BadLine, Endless, IsVerdict, status_of, text_before, Tells}
 use Rattle.replayer.specs.Statuses.{IsGood, HasFaultyTeam, HasBadLine, HasTooMany, IsBadSchedule}
 use Rattle.tw_machine.proofs.LineLaws.{team_line_once, step_line_once}
 

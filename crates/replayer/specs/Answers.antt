@@ -1,16 +1,15 @@
 -- What a replay answers of a text.
-use Rattle.std.specs.Prelude.{ℕ, ◌≡◌, List, [], ◌++◌, take, Option, Some}
+use Rattle.std.specs.Prelude.{ℕ, ◌≡◌, ◌⊎◌, List, [], ◌++◌, take, Option, Some}
 use Rattle.schedule_text.specs.declared.status.Status.{Status}
 use Rattle.schedule_text.specs.declared.status.Status.TheVariants as status
 use Rattle.tw_machine.specs.Types.{Team, Step}
-use Rattle.replayer.specs.Replay.{Begins, Verdict, Whole, NoTeam, Faulty, BadLine, Endless, IsVerdict}
-use Rattle.tw_io.specs.Lines.{lines_of}
+use Rattle.replayer.specs.Replay.{Begins, Verdict, Whole, NoTeam, Faulty, BadLine, Endless, IsVerdict, Tells}
+use Rattle.tw_io.specs.Lines.{lines_of, ended_lines}
 use Rattle.tw_machine.specs.Rows.{rows_of}
 use Rattle.tw_machine.specs.RowText.{text_of}
 use Rattle.tw_machine.specs.SafeRows.{SafeRows}
 use Rattle.tw_machine.specs.ClockLaw.{ReadsWell}
 use Rattle.world.specs.Tables.{entries_of}
-use Rattle.replayer.specs.Cuts.{Tells}
 
 -- these three tell nothing of the text
 abbrev pub GaveUp : Status → Type 0
@@ -52,6 +51,35 @@ pub record IsCutOff (all : List ℕ) (before : List ℕ) (taken : Option (List �
   pub written : taken ≡ Some (before ++ take count rows)
   pub well : (v : Verdict) → IsVerdict (lines_of all) v → RowsAreWell v
 
+-- The rows are those of the steps of a sound team whose lines stand before the rest. They are safe, and each reading in them is near the
+-- team time of its step.
+pub record AreRowsBefore (rest lines : List (List ℕ)) (rows : List ℕ) : Type 0 where
+  pub team : Team
+  pub past : List Step
+  pub schedule : Begins lines team past rest
+  pub text : rows ≡ text_of (rows_of entries_of team past)
+  pub safe : SafeRows team (rows_of entries_of team past)
+  pub near : ReadsWell entries_of team past
+
+-- What was read is what the source lost. Of its lines that were read to their line feed those before the rest were taken, and their
+-- rows were written, whole: none where none was taken.
+pub record IsWrittenUpTo (rest : List (List ℕ)) (all : List ℕ) (left : Option (List ℕ)) (before : List ℕ) (taken : Option (List ℕ)) : Type 0 where
+  pub lost : List ℕ
+  pub more : List ℕ
+  pub all_bytes : all ≡ lost ++ more
+  pub left_bytes : left ≡ Some more
+  pub rows : List ℕ
+  pub rows_before : ((ended_lines lost ≡ rest) × (rows ≡ [])) ⊎ AreRowsBefore rest (ended_lines lost) rows
+  pub written : taken ≡ Some (before ++ rows)
+
+-- The source failed: all lines that were read to their line feed were taken.
+abbrev pub IsUnread : List ℕ → Option (List ℕ) → List ℕ → Option (List ℕ) → Type 0
+IsUnread all left before taken = IsWrittenUpTo [] all left before taken
+
+-- Memory is wanting: a front of the lines that were read was taken.
+abbrev pub IsWithoutMemory : List ℕ → Option (List ℕ) → List ℕ → Option (List ℕ) → Type 0
+IsWithoutMemory all left before taken = (rest : List (List ℕ)) × IsWrittenUpTo rest all left before taken
+
 -- The bytes are the lines of a sound team and of an admissible schedule; all of them were read, and the text of the schedule's rows
 -- was written. The rows are safe, and each reading in them is near the team time of its step.
 pub record IsReplayed (all : List ℕ) (left : Option (List ℕ)) (before : List ℕ) (taken : Option (List ℕ)) : Type 0 where
@@ -62,3 +90,10 @@ pub record IsReplayed (all : List ℕ) (left : Option (List ℕ)) (before : List
   pub written : taken ≡ Some (before ++ text_of (rows_of entries_of team past))
   pub safe : SafeRows team (rows_of entries_of team past)
   pub near : ReadsWell entries_of team past
+
+-- what is so where a replay ends with a status
+abbrev pub Ends : List ℕ → Option (List ℕ) → List ℕ → Option (List ℕ) → Status → Type 0
+Ends all left before taken status.ReadFault = IsUnread all left before taken
+Ends all left before taken status.WriteFault = IsCutOff all before taken
+Ends all left before taken status.WantOfMemory = IsWithoutMemory all left before taken
+Ends all left before taken result = IsAnswered all left before taken result

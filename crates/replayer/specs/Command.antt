@@ -7,7 +7,7 @@ use Rattle.tw_io.specs.Lines.{lines_of}
 use Rattle.tw_io.specs.Moments.{SourceAt, SinkAt, WhereTold}
 use Rattle.tw_machine.specs.Types.{TeamFault}
 use Rattle.replayer.specs.Statuses.{IsGood, HasFaultyTeam, HasBadLine, IsBadSchedule, HasTooMany}
-use Rattle.replayer.specs.Answers.{GaveUp, TellsOfText, IsAnswered, IsCutOff, IsReplayed}
+use Rattle.replayer.specs.Answers.{GaveUp, TellsOfText, IsAnswered, IsCutOff, IsUnread, IsWithoutMemory, IsReplayed}
 
 pub record IsReplay {S K : Type 0} (src src_after : SourceAt S) (sink sink_after : SinkAt K) (result : Status) : Type 0 where
   -- all was read and all rows were written
@@ -20,10 +20,11 @@ pub record IsReplay {S K : Type 0} (src src_after : SourceAt S) (sink sink_after
   -- the line and the cause that are told, and the rows that are written
   pub answered : (GaveUp result → ⊥) → WhereTold src sink (λ all before. IsAnswered all src_after.left before sink_after.taken result)
   pub no_rows : (fault : TeamFault) → result ≡ status.BadTeam fault → WhereTold src sink (λ all before. sink_after.taken ≡ Some before)
-  -- a front of the rows is written where the sink fails, and none where the source or memory fails
+  -- a front of the rows is written where the sink fails
   pub cut_off : result ≡ status.WriteFault → WhereTold src sink (λ all before. IsCutOff all before sink_after.taken)
-  pub unread : result ≡ status.ReadFault → sink_after.object ≡ sink.object
-  pub no_memory : result ≡ status.WantOfMemory → sink_after.object ≡ sink.object
+  -- the rows of all lines that were read to their line feed are written where the source fails, and of some of them where memory does
+  pub unread : result ≡ status.ReadFault → WhereTold src sink (λ all before. IsUnread all src_after.left before sink_after.taken)
+  pub no_memory : result ≡ status.WantOfMemory → WhereTold src sink (λ all before. IsWithoutMemory all src_after.left before sink_after.taken)
   -- no fault is told that did not come in this call
   pub read_fault : result ≡ status.ReadFault → IsRisen src.faults src_after.faults
   pub write_fault : result ≡ status.WriteFault → IsRisen sink.faults sink_after.faults

@@ -1,9 +1,6 @@
 pub mod Replay
-pub mod Cuts
-pub mod Held
-pub mod Extent
 pub mod Statuses
 pub mod Answers
 pub mod NextLine
+pub mod RowRoom
 pub mod Command
-pub mod TextReplay

@@ -68,3 +68,7 @@ text_before NoTeam = []
 text_before (Faulty fault) = []
 text_before (BadLine team past cause) = text_of (rows_of entries_of team past)
 text_before (Endless team past) = text_of (rows_of entries_of team past)
+
+-- the status and the rows are those of what the lines are
+abbrev pub Tells : List (List ℕ) → Status → List ℕ → Type 0
+Tells lines status text = (v : Verdict) × IsVerdict lines v × (status ≡ status_of v) × (text ≡ text_before v)

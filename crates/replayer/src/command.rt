@@ -3,14 +3,13 @@
 ghost use Rattle.tw_io.specs.Moments.{source_at, sink_at};
 ghost use Rattle.replayer.specs.Command.{IsReplay};
 
-use crate::input::{Halt, read_text};
-use crate::text::replay_text;
-use schedule_text::{Status, write_all};
+use crate::steps::{Rooms, replay_lines};
+use schedule_text::Status;
 use std::alloc::Global;
 use tw_io::{Sink, Source};
 
-/// Reads a schedule and writes its rows, one for each step. A status other than `Ok` says why it stopped, and the rows of the
-/// steps before that are written.
+/// Reads a schedule line by line, and writes the row of each step before it reads the next line. A status other than `Ok` says why it
+/// stopped, and the rows of the steps before that are written.
 ///
 /// Whatever the schedule, its rows are safe, and each reading is near team time.
 ///
@@ -19,16 +18,8 @@ use tw_io::{Sink, Source};
 pub fn replay<S: Source, K: Sink>(alloc: Global, src: &mut S, sink: &mut K) -> Status
     ensures { IsReplay (source_at S.left S.faults src.old) (source_at S.left S.faults src.new) (sink_at K.taken K.faults sink.old) (sink_at K.taken K.faults sink.new) result }
 {
-    let text = match read_text(alloc, src) {
-        Ok(text) => text,
-        Err(Halt::ReadFault) => return Status::ReadFault,
-        Err(Halt::WantOfMemory) => return Status::WantOfMemory,
-    };
-    let Ok(replay) = replay_text(alloc, &text) else {
+    let Ok(mut rooms) = Rooms::new(alloc) else {
         return Status::WantOfMemory;
     };
-    match write_all(sink, replay.rows.bytes()) {
-        Ok(()) => replay.status,
-        Err(_) => Status::WriteFault,
-    }
+    replay_lines(alloc, &mut rooms, src, sink)
 }

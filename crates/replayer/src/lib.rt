@@ -1,12 +1,10 @@
-//! The command `replay`: a schedule is read, and one row is written for each step.
+//! The command `replay`: a schedule is read line by line, and one row is written for each step before the next line is read.
 //!
-//! Rules held here: how far a text is read; which line ends it and for which cause; which rows are written with which status.
+//! Rules held here: which line ends a text and for which cause; which rows are written with which status.
 #![tactic(auto)]
 
 mod command;
-mod first_line;
-mod held;
-mod input;
-mod text;
+mod row_room;
+mod steps;
 
 pub use command::replay;

@@ -1,12 +1,12 @@
 -- The lines of a text, taken from its front.
-use Rattle.std.proofs.Common.{zero, suc, get_or, take, drop, Some, None, ◌≡◌, ◌≢◌, refl, ap, ℕ, ◌+◌, ◌<◌, ◌≤◌, List, [], ◌∷◌, ◌++◌, length, Bool, true, false, cond, arith, nat_eq}
+use Rattle.std.proofs.Common.{zero, suc, get_or, take, drop, Some, None, ◌≡◌, ◌≢◌, refl, ap, ◌∙◌, ℕ, ◌+◌, ◌<◌, ◌≤◌, List, [], ◌∷◌, ◌++◌, length, Bool, true, false, cond, arith, nat_eq}
 use Rattle.std.specs.List.{onto_first, position, position_or_len}
 use Rattle.std.proofs.lemmas.List.{take_all}
 use Rattle.std.proofs.lemmas.List.Quantifiers.{position-Some}
-use Rattle.std.proofs.lemmas.List.Sums.{fails_before_first}
+use Rattle.std.proofs.lemmas.List.Sums.{fails_before_first, sum_by-cons}
 use Rattle.std.proofs.lemmas.Bool.Decides.{nat_tests}
-use Rattle.std.specs.Prelude.{nat_lt}
-use Rattle.tw_io.specs.Lines.{lines_of, IsOneLine, IsFirstLine, Ended, Last}
+use Rattle.std.specs.Prelude.{nat_lt, count_by}
+use Rattle.tw_io.specs.Lines.{lines_of, ended_lines, IsOneLine, IsFirstLine, Ended, Last}
 
 differs : (b : ℕ) → b ≢ 10 → nat_eq b 10 ≡ false
 differs b h = grind arith
@@ -75,3 +75,33 @@ first_line_last bytes some e = Last (no_line_feed bytes e) refl refl some
 
 pub nonempty : (bytes : List ℕ) → false ≡ nat_eq (length bytes) 0 → 0 < length bytes
 nonempty bytes e = grind (arith, nat_tests)
+
+-- how many line feeds a text has
+abbrev feeds : List ℕ → ℕ
+feeds bytes = count_by (λ b. nat_eq b 10) bytes
+
+no_feed_more : (b : ℕ) (bytes : List ℕ) → b ≢ 10 → feeds (b ∷ bytes) ≡ feeds bytes
+no_feed_more b bytes differ = omega (arith, sum_by-cons one_for b bytes, none (nat_eq b 10) (differs b differ))
+  where
+    one_for : ℕ → ℕ
+    one_for b = cond (nat_eq b 10) 1 0
+
+    none : (t : Bool) → t ≡ false → cond {A = ℕ} t 1 0 ≡ 0
+    none true e = cc
+    none false e = refl
+
+one_line_feeds : (line : List ℕ) → IsOneLine line → feeds line ≡ 0
+one_line_feeds [] h = refl
+one_line_feeds (b ∷ line) h = no_feed_more b line h.0 ∙ one_line_feeds line h.1
+
+feeds-ended : (line rest : List ℕ) → IsOneLine line → feeds (line ++ 10 ∷ rest) ≡ suc (feeds rest)
+feeds-ended [] rest h = omega (arith, sum_by-cons (λ b. cond (nat_eq b 10) 1 0) 10 rest)
+feeds-ended (b ∷ line) rest h = no_feed_more b (line ++ 10 ∷ rest) h.0 ∙ feeds-ended line rest h.1
+
+-- a line with its line feed is the first of the lines up to the last line feed
+pub ended_lines-ended : (line rest : List ℕ) → IsOneLine line → ended_lines (line ++ 10 ∷ rest) ≡ line ∷ ended_lines rest
+ended_lines-ended line rest h = ap (λ n. take n (lines_of (line ++ 10 ∷ rest))) (feeds-ended line rest h) ∙ ap (λ ls. take (suc (feeds rest)) ls) (lines_of-ended line rest h)
+
+-- a line without one is none of them
+pub ended_lines-open : (line : List ℕ) → IsOneLine line → ended_lines line ≡ []
+ended_lines-open line h = ap (λ n. take n (lines_of line)) (one_line_feeds line h)

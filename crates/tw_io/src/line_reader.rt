@@ -39,8 +39,9 @@ pub struct LineReader {
 }
 
 impl LineReader {
-    ghost use Rattle.std.specs.Prelude.{ℕ, ◌<◌, ◌≡◌, ◌==◌, ◌++◌, [], List, Some, None, length, position, IfOk, IfSome, OnErr};
+    ghost use Rattle.std.specs.Prelude.{ℕ, ◌<◌, ◌≡◌, ◌==◌, ◌++◌, [], List, Some, None, true, false, length, position, IfOk, IfSome, OnErr};
     ghost use Rattle.tw_io.specs.Faults.{IsRisen};
+    ghost use Rattle.tw_io.specs.Lines.{IsOneLine};
     ghost use Rattle.tw_io.specs.LineReader.{held, line_given, IsNextLine};
 
     /// A reader of lines of at most `limit` bytes, their line feeds not counted.
@@ -69,13 +70,16 @@ impl LineReader {
     /// The next line of the source: of what is held, and then of what is read. None where there is none. `Longer` where it has
     /// more than `limit` bytes: nothing is taken then, and the next call tells it again.
     ///
-    /// Fails only where the source fails in this call. What was read before stays held, and the next call goes on there.
+    /// Fails only where the source fails in this call. What was read before stays held, and the next call goes on there: it is no
+    /// whole line, and may still become one.
     pub fn next<S: Source>(&mut self, src: &mut S) -> Result<Option<Line>, ReadFailed>
         ensures next { IfOk result (λ answer. (bytes : List ℕ) → S.left src.old ≡ Some bytes →
             (rest : List ℕ) × (S.left src.new ≡ Some rest) × IsNextLine self.old.limit (held self.old ++ bytes) answer (line_given self.new) (held self.new ++ rest)) }
         ensures err { OnErr result ((bytes : List ℕ) → S.left src.old ≡ Some bytes →
             (rest : List ℕ) × (S.left src.new ≡ Some rest) × (held self.old ++ bytes ≡ held self.new ++ rest)) }
         ensures kept { OnErr result ((more : List ℕ) × (held self.new ≡ held self.old ++ more)) }
+        ensures open_line { OnErr result (IsOneLine (held self.new)) }
+        ensures short { OnErr result (length (held self.new) ≤ self.old.limit) }
         ensures within { length (line_given self.new) ≤ self.old.limit }
         ensures limit { self.new.limit ≡ self.old.limit }
         ensures untold { S.left src.old ≡ None → S.left src.new ≡ None }
@@ -93,6 +97,26 @@ impl LineReader {
                 return Ok(self.last());
             }
         }
+    }
+
+    /// Whether nothing is left, neither held nor in the source. Where something is held the source isn't asked, else it is read
+    /// once, and what it gives is held.
+    ///
+    /// Fails only where the source fails in this call. Nothing is held then.
+    pub fn is_at_end<S: Source>(&mut self, src: &mut S) -> Result<bool, ReadFailed>
+        ensures text { (bytes : List ℕ) → S.left src.old ≡ Some bytes → (rest : List ℕ) × (S.left src.new ≡ Some rest) × (held self.old ++ bytes ≡ held self.new ++ rest) }
+        ensures end { IfOk result (λ answer. answer ≡ true → (held self.new ≡ []) × ((bytes : List ℕ) → S.left src.old ≡ Some bytes → S.left src.new ≡ Some [])) }
+        ensures more { IfOk result (λ answer. answer ≡ false → 0 < length (held self.new)) }
+        ensures err { OnErr result (held self.new ≡ []) }
+        ensures limit { self.new.limit ≡ self.old.limit }
+        ensures untold { S.left src.old ≡ None → S.left src.new ≡ None }
+        ensures monotone { S.faults src.old ≤ S.faults src.new }
+        ensures cause { OnErr result (IsRisen (S.faults src.old) (S.faults src.new)) }
+    {
+        if self.start < self.end {
+            return Ok(false);
+        }
+        Ok(self.fill(src)? == 0)
     }
 
     /// Where the first line feed stands in what is held.

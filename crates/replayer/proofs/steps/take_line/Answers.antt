@@ -2,7 +2,7 @@
 use Rattle.std.proofs.Common.{refl, inl}
 use Rattle.world.specs.Causes.{cause_told}
 use Rattle.replayer.proofs.Replays.{refused}
-use Rattle.replayer.proofs.text.take_line.Goals as goal
+use Rattle.replayer.proofs.steps.take_line.Goals as goal
 
 pub returns-in_default-clause-refused : goal.returns-in_default-clause-refused
 returns-in_default-clause-refused c = λ past stands. inl (refl, c.in_default.ensures.refused)

@@ -1,0 +1,7 @@
+pub mod Calls
+pub mod Does
+pub mod Events
+pub mod Happened
+pub mod Runs
+pub mod Spool
+pub mod Texts
